@@ -1,0 +1,10 @@
+pub mod Count
+pub mod Serve
+pub mod Shrink
+pub mod Attain
+pub mod Decide
+pub mod Index
+pub mod Ranks
+pub mod Flags
+pub mod Rounds
+pub mod Formed

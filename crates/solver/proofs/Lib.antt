@@ -1,0 +1,9 @@
+pub mod Choosing
+pub mod Copies
+pub mod Freshness
+pub mod Goings
+pub mod Policies
+pub mod Rows
+pub mod Solutions
+pub mod TaskTables
+pub mod Writes
