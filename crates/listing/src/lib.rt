@@ -13,6 +13,7 @@ use search::CountMoves;
 use search::Minutes;
 use search::MoveCount;
 use sheet::LoadError;
+use sheet::LoadErrorDisplay;
 use sheet::load;
 use solver::Entry;
 use solver::SolveError;
@@ -82,15 +83,7 @@ pub fn page(heap: Global, sheet: &[u8]) -> Result<String, AllocError> {
             Ok(text) => Ok(text),
             Err(_) => Err(AllocError),
         },
-        Err(LoadError::Fault { fault, records }) => {
-            let number = fault.number();
-            let layer = fault.layer();
-            let place = fault.place();
-            format!(
-                heap,
-                "fault {number} layer {layer} at {place} record {records}\n"
-            )
-        }
         Err(LoadError::Memory) => Err(AllocError),
+        Err(fault) => format!(heap, "{fault}\n"),
     }
 }

@@ -37,7 +37,7 @@ fn add_entry<C: CostModel>(
     out.push_str("\n")
 }
 
-pub fn add_part<C: CostModel>(
+pub(crate) fn add_part<C: CostModel>(
     heap: Global,
     width: usize,
     entries: &[Entry],

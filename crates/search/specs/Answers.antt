@@ -5,6 +5,7 @@ use mathlib.Core.Bool.{Bool, true, false}
 use Prim.Native.Nat.{ℕ, _<_, _≤_}
 use lib.ListN.{length, getD}
 use Rattle.port.specs.declared.Move.{Move}
+use Rattle.plans.specs.Flags.{has}
 use Rattle.plans.specs.Plans.{Plan, work, IsRun, Attains}
 use Rattle.search.specs.Costs.{Model, Le, cost}
 use Rattle.search.specs.declared.Choice.{Choice}
@@ -32,11 +33,7 @@ Answer k e moves keep goal c None = (p : Plan) → Attains moves keep goal p c �
 Answer k e moves keep goal c There = goal c ≡ true
 Answer k e moves keep goal c (Work o x) = (goal c ≡ false) × Best k moves keep goal c o (e x)
 
--- what a list of flags says of c: past its end, no
-abbrev pub flag : List Bool → ℕ → Bool
-flag bs c = getD bs c false
-
 -- an answer for each of n conditions
 pub record Answers {A : Type 0} (n : ℕ) (k : Model) (e : A → List ℕ) (moves : List Move) (keep goal : List Bool) (r : List (Choice A)) : Type 0 where
   pub sized : length r ≡ n
-  pub each : (c : ℕ) → c < n → Answer k e moves (flag keep) (flag goal) c (getD r c None)
+  pub each : (c : ℕ) → c < n → Answer k e moves (has keep) (has goal) c (getD r c None)

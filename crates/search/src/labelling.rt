@@ -11,7 +11,8 @@ ghost use Rattle.search.specs.Groups.{GroupEnd, Ordered, Inside, Lowest, eithe
 ghost use Rattle.search.specs.Indexed.{count-of, moves-of};
 ghost use Rattle.search.specs.Indexes.{Apart};
 ghost use Rattle.search.specs.Labels.{By, Cheapest, Few, Greatest, Offered, looked, shown};
-ghost use Rattle.search.specs.Answers.{Answers, flag};
+ghost use Rattle.plans.specs.Flags.{has};
+ghost use Rattle.search.specs.Answers.{Answers};
 ghost use Rattle.search.specs.Steps.{AllOffered, LeastOf, LowPlace, Picked, Settled, labelled-of, start, under-of};
 use crate::Choice;
 use crate::cost::CostModel;
@@ -133,7 +134,7 @@ fn operation<C: CostModel>(moves: &[Move], costs: &[Option<C::Cost>], cost: C::C
 
 // What a list of flags says of `c`: past its end, no.
 fn flag_at(flags: &[bool], c: usize) -> bool
-    ensures { λ r. ⌜ r ≡ flag (now (flags .entry)) c ⌝ }
+    ensures { λ r. ⌜ r ≡ has (now (flags .entry)) c ⌝ }
 {
     c < flags.len() && flags[c]
 }
@@ -141,7 +142,7 @@ fn flag_at(flags: &[bool], c: usize) -> bool
 // Whether `c` has no cost yet and may be worked in.
 fn is_open<C: CostModel>(keep: &[bool], costs: &[Option<C::Cost>], c: usize) -> bool
     requires { ⌜ c < length (now costs) ⌝ }
-    ensures { λ r. ⌜ Decides r ((looked exact (now (costs .entry)) c ≡ None) × (flag (now (keep .entry)) c ≡ true)) ⌝ }
+    ensures { λ r. ⌜ Decides r ((looked exact (now (costs .entry)) c ≡ None) × (has (now (keep .entry)) c ≡ true)) ⌝ }
 {
     let cost = costs[c];
     match cost {
@@ -160,7 +161,7 @@ fn offer<C: CostModel>(
     requires sized { ⌜ length (now costs) ≡ count-of (now index) ⌝ }
     requires few { ⌜ Few model exact 255 (now costs) ⌝ }
     requires within { ⌜ c < length (now costs) ⌝ }
-    ensures { λ r. ⌜ Offered model (moves-of (now (index .entry))) (flag (now (keep .entry))) (looked exact (now (costs .entry))) c (shown exact r) ⌝ }
+    ensures { λ r. ⌜ Offered model (moves-of (now (index .entry))) (has (now (keep .entry))) (looked exact (now (costs .entry))) c (shown exact r) ⌝ }
 {
     if is_open::<C>(keep, costs, c) {
         cheapest::<C>(index.moves_from(c), costs)
@@ -175,7 +176,7 @@ fn begin<C: CostModel>(
     conditions: usize,
     goal: &[bool],
 ) -> Result<Vec<Option<C::Cost>>, AllocError>
-    ensures { λ r. ⌜ made r (λ v. (length (vec-items v) ≡ conditions) × ((c : ℕ) → c < conditions → looked exact (vec-items v) c ≡ start model (flag (now (goal .entry))) c)) ⌝ }
+    ensures { λ r. ⌜ made r (λ v. (length (vec-items v) ≡ conditions) × ((c : ℕ) → c < conditions → looked exact (vec-items v) c ≡ start model (has (now (goal .entry))) c)) ⌝ }
 {
     let mut costs = Vec::new(heap);
     for c in 0..conditions {
@@ -197,7 +198,7 @@ fn offers_of<C: CostModel>(
 ) -> Result<Vec<Option<C::Cost>>, AllocError>
     requires sized { ⌜ length (now costs) ≡ count-of (now index) ⌝ }
     requires few { ⌜ Few model exact 255 (now costs) ⌝ }
-    ensures { λ r. ⌜ made r (λ v. (length (vec-items v) ≡ length (now (costs .entry))) × AllOffered model (moves-of (now (index .entry))) (flag (now (keep .entry))) (length (now (costs .entry))) (looked exact (now (costs .entry))) (looked exact (vec-items v))) ⌝ }
+    ensures { λ r. ⌜ made r (λ v. (length (vec-items v) ≡ length (now (costs .entry))) × AllOffered model (moves-of (now (index .entry))) (has (now (keep .entry))) (length (now (costs .entry))) (looked exact (now (costs .entry))) (looked exact (vec-items v))) ⌝ }
 {
     let mut offers = Vec::new(heap);
     for c in 0..costs.len() {
@@ -264,8 +265,8 @@ fn renew<C: CostModel>(
     requires same { ⌜ length (now offers) ≡ count-of (now index) ⌝ }
     requires few { ⌜ Few model exact 255 (now costs) ⌝ }
     requires within { ⌜ d < count-of (now index) ⌝ }
-    requires rest { ⌜ ((c : ℕ) → c < count-of (now index) → Apart (moves-of (now index)) c d → Offered model (moves-of (now index)) (flag (now keep)) (looked exact (now costs)) c (looked exact (now offers) c)) ⌝ }
-    ensures { λ _. ⌜ AllOffered model (moves-of (now (index .entry))) (flag (now (keep .entry))) (count-of (now (index .entry))) (looked exact (now (costs .entry))) (looked exact (now (offers .exit))) ⌝ }
+    requires rest { ⌜ ((c : ℕ) → c < count-of (now index) → Apart (moves-of (now index)) c d → Offered model (moves-of (now index)) (has (now keep)) (looked exact (now costs)) c (looked exact (now offers) c)) ⌝ }
+    ensures { λ _. ⌜ AllOffered model (moves-of (now (index .entry))) (has (now (keep .entry))) (count-of (now (index .entry))) (looked exact (now (costs .entry))) (looked exact (now (offers .exit))) ⌝ }
 {
     for c in 0..offers.len() {
         if index.leads(c, d) {
@@ -286,9 +287,9 @@ fn fix<C: CostModel>(
     requires same { ⌜ length (now offers) ≡ count-of (now index) ⌝ }
     requires few { ⌜ Few model exact 255 (set (now costs) (label .condition) (Some (label .cost))) ⌝ }
     requires within { ⌜ label .condition < count-of (now index) ⌝ }
-    requires rest { ⌜ ((c : ℕ) → c < count-of (now index) → Apart (moves-of (now index)) c (label .condition) → Offered model (moves-of (now index)) (flag (now keep)) (looked exact (set (now costs) (label .condition) (Some (label .cost)))) c (looked exact (set (now offers) (label .condition) None) c)) ⌝ }
+    requires rest { ⌜ ((c : ℕ) → c < count-of (now index) → Apart (moves-of (now index)) c (label .condition) → Offered model (moves-of (now index)) (has (now keep)) (looked exact (set (now costs) (label .condition) (Some (label .cost)))) c (looked exact (set (now offers) (label .condition) None) c)) ⌝ }
     ensures costs { λ _. ⌜ now (costs .exit) ≡ set (now (costs .entry)) (label .condition) (Some (label .cost)) ⌝ }
-    ensures offers { λ _. ⌜ AllOffered model (moves-of (now (index .entry))) (flag (now (keep .entry))) (count-of (now (index .entry))) (looked exact (now (costs .exit))) (looked exact (now (offers .exit))) ⌝ }
+    ensures offers { λ _. ⌜ AllOffered model (moves-of (now (index .entry))) (has (now (keep .entry))) (count-of (now (index .entry))) (looked exact (now (costs .exit))) (looked exact (now (offers .exit))) ⌝ }
 {
     costs[label.condition] = Some(label.cost);
     offers[label.condition] = None;
@@ -302,7 +303,7 @@ fn solve<C: CostModel>(
     keep: &[bool],
     goal: &[bool],
 ) -> Result<Vec<Option<C::Cost>>, AllocError>
-    ensures { λ r. ⌜ made r (λ v. Settled model exact (moves-of (now (index .entry))) (flag (now (keep .entry))) (flag (now (goal .entry))) (count-of (now (index .entry))) (vec-items v)) ⌝ }
+    ensures { λ r. ⌜ made r (λ v. Settled model exact (moves-of (now (index .entry))) (has (now (keep .entry))) (has (now (goal .entry))) (count-of (now (index .entry))) (vec-items v)) ⌝ }
 {
     let mut costs = begin::<C>(heap, index.conditions(), goal)?;
     let mut offers = offers_of::<C>(heap, index, keep, &costs)?;
@@ -322,7 +323,7 @@ fn choose<C: CostModel>(
     requires sized { ⌜ length (now costs) ≡ count-of (now index) ⌝ }
     requires few { ⌜ Few model exact 255 (now costs) ⌝ }
     requires within { ⌜ c < length (now costs) ⌝ }
-    ensures { λ r. ⌜ Picked model exact (moves-of (now (index .entry))) (looked exact (now (costs .entry))) (flag (now (goal .entry))) c r ⌝ }
+    ensures { λ r. ⌜ Picked model exact (moves-of (now (index .entry))) (looked exact (now (costs .entry))) (has (now (goal .entry))) c r ⌝ }
 {
     if flag_at(goal, c) {
         return Choice::There;

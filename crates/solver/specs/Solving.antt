@@ -5,6 +5,8 @@ use mathlib.Core.List.{List, [], _∷_}
 use Prim.Native.Nat.{ℕ, suc, max, _+_, _*_}
 use lib.Dec.{eqb, leb}
 use lib.ListN.{length, getD, take, drop}
+use Rattle.std.specs.declared.option.Option.{Option}
+use Rattle.std.specs.declared.option.Option.the-variants.{None, Some}
 use Rattle.std.specs.declared.result.Result.{Result}
 use Rattle.std.specs.declared.result.Result.the-variants.{Ok, Err}
 use Rattle.plans.specs.Simulation.{Domain}
@@ -20,9 +22,9 @@ use Rattle.search.specs.declared.Choice.{Choice}
 use Rattle.port.specs.Model.{Model as PortModel}
 
 -- the number of a refusal; want of memory has none
-abbrev pub refusal-number : SolveError → ℕ
-refusal-number Short = 12
-refusal-number Memory = 0
+abbrev pub refusal-number : SolveError → Option ℕ
+refusal-number Short = Some 12
+refusal-number Memory = None
 
 -- the place of the start pair among the ranks
 abbrev pub start-of : PortModel → ℕ

@@ -7,14 +7,20 @@ ghost use Rattle.plans.specs.Flags.{Dropped, has, pairs};
 ghost use Rattle.solver.specs.Legs.{leg-at, served-by};
 use crate::Leg;
 
-pub fn both(a: bool, b: bool) -> bool
+pub(crate) fn both(a: bool, b: bool) -> bool
     ensures { λ r. ⌜ r ≡ (a && b) ⌝ }
 {
     a && b
 }
 
 // Into `goal`, where `reach` holds and `alive` has the pair; the two rows begin at these places.
-pub fn meet(reach: &[bool], reach_at: usize, alive: &[bool], alive_at: usize, goal: &mut [bool])
+pub(crate) fn meet(
+    reach: &[bool],
+    reach_at: usize,
+    alive: &[bool],
+    alive_at: usize,
+    goal: &mut [bool],
+)
     requires reach { ⌜ «reach_at» + length (now goal) ≤ length (now reach) ⌝ }
     requires alive { ⌜ «alive_at» + length (now goal) ≤ length (now alive) ⌝ }
     ensures { λ _. ⌜ ((c : ℕ) → c < length (now (goal .exit)) → has (now (goal .exit)) c ≡ (has (now (reach .entry)) («reach_at» + c) && has (now (alive .entry)) («alive_at» + c))) ⌝ }
@@ -39,7 +45,13 @@ fn narrow(served: &[bool], at: usize, width: usize, next: &mut [bool], next_at: 
 }
 
 // Takes out of `next` each pair from which some request of its stage is not served.
-pub fn narrow_all(legs: &[Leg], served: &[bool], width: usize, stages: usize, next: &mut [bool])
+pub(crate) fn narrow_all(
+    legs: &[Leg],
+    served: &[bool],
+    width: usize,
+    stages: usize,
+    next: &mut [bool],
+)
     requires served { ⌜ length (now served) ≡ length (now legs) * width ⌝ }
     requires next { ⌜ length (now next) ≡ stages * width ⌝ }
     requires legs { ⌜ ((i : ℕ) → i < length (now legs) → leg-at (now legs) i .from < stages) ⌝ }
@@ -59,7 +71,7 @@ fn differs(a: &[bool], b: &[bool]) -> bool
 }
 
 // Which stages lose a pair.
-pub fn note_lost(alive: &[bool], next: &[bool], width: usize, lost: &mut [bool])
+pub(crate) fn note_lost(alive: &[bool], next: &[bool], width: usize, lost: &mut [bool])
     requires alive { ⌜ length (now alive) ≡ length (now lost) * width ⌝ }
     requires next { ⌜ length (now next) ≡ length (now lost) * width ⌝ }
     ensures { λ _. ⌜ ((s c : ℕ) → s < length (now (lost .exit)) → c < width → has (now (lost .exit)) s ≡ false → pairs width (now (next .entry)) s c ≡ pairs width (now (alive .entry)) s c) ⌝ }
@@ -71,7 +83,7 @@ pub fn note_lost(alive: &[bool], next: &[bool], width: usize, lost: &mut [bool])
 }
 
 // Drops from `alive` what `next` lacks, and notes the round as its rank; whether it dropped any.
-pub fn settle(next: &[bool], round: u16, alive: &mut [bool], ranks: &mut [u16]) -> bool
+pub(crate) fn settle(next: &[bool], round: u16, alive: &mut [bool], ranks: &mut [u16]) -> bool
     requires next { ⌜ length (now next) ≡ length (now alive) ⌝ }
     requires ranks { ⌜ length (now ranks) ≡ length (now alive) ⌝ }
     ensures dropped { λ r. ⌜ Dropped (now (alive .entry)) (now (alive .exit)) (now (ranks .entry)) (now (ranks .exit)) round r ⌝ }

@@ -1,4 +1,8 @@
 // Decides which pairs of a port are kept, ranks the others, and fills a policy, under any lawful cost model.
+ghost use mathlib.Core.Path.{_≡_};
+ghost use Rattle.solver.specs.Policy.{entry-byte};
+ghost use Rattle.solver.specs.Solving.{refusal-number};
+
 mod flags;
 mod policy;
 mod rounds;
@@ -16,6 +20,19 @@ pub enum Entry {
     None,
     There,
     Work(u8),
+}
+
+impl Entry {
+    // The byte by which an entry is known: 255 for none, 254 for there, else the operation.
+    pub fn byte(self) -> u8
+        ensures { λ r. ⌜ r ≡ entry-byte self ⌝ }
+    {
+        match self {
+            Entry::None => 255,
+            Entry::There => 254,
+            Entry::Work(operation) => operation,
+        }
+    }
 }
 
 pub impl fmt::Display for Entry as EntryDisplay {
@@ -43,9 +60,21 @@ pub enum SolveError {
     Memory,
 }
 
+impl SolveError {
+    // The number of a refusal; want of memory has none.
+    pub fn number(self) -> Option<u8>
+        ensures { λ r. ⌜ r ≡ refusal-number self ⌝ }
+    {
+        match self {
+            SolveError::Short => Some(12),
+            SolveError::Memory => None,
+        }
+    }
+}
+
 // The stages of a request.
 #[derive(Clone, Copy)]
-pub struct Leg {
-    pub from: usize,
-    pub to: usize,
+struct Leg {
+    from: usize,
+    to: usize,
 }

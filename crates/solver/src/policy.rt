@@ -60,7 +60,7 @@ fn choose_rows<C: CostModel>(
 }
 
 // The choices for each request and condition, with the pairs that `alive` has to end in.
-pub fn choose_all<C: CostModel>(
+pub(crate) fn choose_all<C: CostModel>(
     heap: Global,
     index: &MoveIndex,
     tasks: &Tasks,

@@ -27,9 +27,9 @@ use std::alloc::Global;
 
 // What the rounds come to: a flag for each pair that is kept, and the ranks, by stage and then by condition.
 #[derive(Drop)]
-pub struct Verdict {
-    pub alive: Vec<bool>,
-    pub ranks: Vec<u16>,
+pub(crate) struct Verdict {
+    pub(crate) alive: Vec<bool>,
+    pub(crate) ranks: Vec<u16>,
 }
 
 fn has_plan<K: Copy>(choice: Choice<K>) -> bool
@@ -166,7 +166,7 @@ fn rank_pairs(
 }
 
 // Which pairs are kept, and the rank of each.
-pub fn judge(heap: Global, index: &MoveIndex, tasks: &Tasks) -> Result<Verdict, AllocError>
+pub(crate) fn judge(heap: Global, index: &MoveIndex, tasks: &Tasks) -> Result<Verdict, AllocError>
     requires { ⌜ TasksFor (domain-in (now index)) (now tasks) ⌝ }
     ensures { λ r. ⌜ made r (λ v. Ranked (domain-in (now (index .entry))) (vec-items (v .alive)) (vec-items (v .ranks))) ⌝ }
 {

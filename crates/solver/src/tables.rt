@@ -16,10 +16,10 @@ use std::alloc::Global;
 
 // The requests of a port: their stages, and a row of flags for each text, condition by condition.
 #[derive(Drop)]
-pub struct Tasks {
-    pub legs: Vec<Leg>,
-    pub keep: Vec<bool>,
-    pub reach: Vec<bool>,
+pub(crate) struct Tasks {
+    pub(crate) legs: Vec<Leg>,
+    pub(crate) keep: Vec<bool>,
+    pub(crate) reach: Vec<bool>,
 }
 
 // Whether the text holds on a set of marks.
@@ -54,7 +54,7 @@ fn leg_of(request: &Request) -> Leg
 }
 
 impl Tasks {
-    pub fn new(heap: Global, port: &Port) -> Result<Tasks, AllocError>
+    pub(crate) fn new(heap: Global, port: &Port) -> Result<Tasks, AllocError>
         ensures { λ r. ⌜ made r (λ t. TasksOf (model-of (now (port .entry))) t) ⌝ }
     {
         let mut legs = Vec::new(heap);

@@ -30,7 +30,7 @@ fn cost_of<C: CostModel>(choice: Choice<C::Cost>) -> C::Cost
 }
 
 // The entries of the choices, from the first place on.
-pub fn write_entries<K: Copy>(choices: &[Choice<K>], entries: &mut [Entry])
+pub(crate) fn write_entries<K: Copy>(choices: &[Choice<K>], entries: &mut [Entry])
     requires { ⌜ length (now choices) ≤ length (now entries) ⌝ }
     ensures here { λ _. ⌜ take (length (now (choices .entry))) (now (entries .exit)) ≡ mapped entry-of (now (choices .entry)) ⌝ }
     ensures rest { λ _. ⌜ dropped (length (now (choices .entry))) (now (entries .exit)) ≡ dropped (length (now (choices .entry))) (now (entries .entry)) ⌝ }
@@ -41,7 +41,7 @@ pub fn write_entries<K: Copy>(choices: &[Choice<K>], entries: &mut [Entry])
 }
 
 // The costs of the choices, from the first place on.
-pub fn write_costs<C: CostModel>(choices: &[Choice<C::Cost>], costs: &mut [C::Cost])
+pub(crate) fn write_costs<C: CostModel>(choices: &[Choice<C::Cost>], costs: &mut [C::Cost])
     requires { ⌜ length (now choices) ≤ length (now costs) ⌝ }
     ensures here { λ _. ⌜ take (length (now (choices .entry))) (mapped exact (now (costs .exit))) ≡ mapped (exact-of model exact) (now (choices .entry)) ⌝ }
     ensures rest { λ _. ⌜ dropped (length (now (choices .entry))) (now (costs .exit)) ≡ dropped (length (now (choices .entry))) (now (costs .entry)) ⌝ }
@@ -52,7 +52,7 @@ pub fn write_costs<C: CostModel>(choices: &[Choice<C::Cost>], costs: &mut [C::Co
 }
 
 // The ranks, from the first place on.
-pub fn write_ranks(from: &[u16], ranks: &mut [u16])
+pub(crate) fn write_ranks(from: &[u16], ranks: &mut [u16])
     requires { ⌜ length (now from) ≤ length (now ranks) ⌝ }
     ensures here { λ _. ⌜ take (length (now (from .entry))) (now (ranks .exit)) ≡ now (from .entry) ⌝ }
     ensures rest { λ _. ⌜ dropped (length (now (from .entry))) (now (ranks .exit)) ≡ dropped (length (now (from .entry))) (now (ranks .entry)) ⌝ }
@@ -63,7 +63,7 @@ pub fn write_ranks(from: &[u16], ranks: &mut [u16])
 }
 
 // How many of the ranks are 0.
-pub fn count_kept(ranks: &[u16]) -> usize
+pub(crate) fn count_kept(ranks: &[u16]) -> usize
     ensures { λ r. ⌜ r ≡ zeros (now (ranks .entry)) ⌝ }
 {
     let mut count = 0;
@@ -75,7 +75,7 @@ pub fn count_kept(ranks: &[u16]) -> usize
     count
 }
 
-pub fn largest(ranks: &[u16]) -> u16
+pub(crate) fn largest(ranks: &[u16]) -> u16
     ensures { λ r. ⌜ r ≡ largest-of (now (ranks .entry)) ⌝ }
 {
     let mut top = 0;

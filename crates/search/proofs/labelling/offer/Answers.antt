@@ -2,7 +2,7 @@ use mathlib.Core.Path.{sym, subst}
 use Prim.Native.Nat.{_<_}
 use denote.Ref.{now}
 use Rattle.search.specs.Labels.{shown, looked}
-use Rattle.search.specs.Answers.{flag}
+use Rattle.plans.specs.Flags.{has}
 use Rattle.search.specs.Indexed.{moves-of}
 use Rattle.search.proofs.Steps.{offered-from}
 use Rattle.search.proofs.Bounds.{index-within}
@@ -22,4 +22,4 @@ pub returns-then-is-open : need.returns-then-is-open
 returns-then-is-open g c =
     let k = g .C·CostModel in
     let open-here = c .is-open .ensures .0 (c .if-is-open .taken) in
-    offered-from (k .model) (looked (k .exact) (c .args .costs .now)) (moves-of (c .args .index .now)) (c .args .c) (now (c .moves-from .result)) (c .moves-from .ensures) (flag (c .args .keep .now)) (shown (k .exact) (c .cheapest .result)) (open-here .0) (open-here .1) (c .cheapest .ensures)
+    offered-from (k .model) (looked (k .exact) (c .args .costs .now)) (moves-of (c .args .index .now)) (c .args .c) (now (c .moves-from .result)) (c .moves-from .ensures) (has (c .args .keep .now)) (shown (k .exact) (c .cheapest .result)) (open-here .0) (open-here .1) (c .cheapest .ensures)

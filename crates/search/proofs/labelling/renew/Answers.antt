@@ -4,7 +4,7 @@ use native.Mathlib.Omega.{arith}
 use lib.ListN.{length}
 use Rattle.search.specs.Indexes.{Apart}
 use Rattle.search.specs.Labels.{looked, Offered}
-use Rattle.search.specs.Answers.{flag}
+use Rattle.plans.specs.Flags.{has}
 use Rattle.search.specs.Indexed.{count-of, moves-of}
 use Rattle.search.specs.Steps.{AllOffered}
 use Rattle.search.proofs.Steps.{renew-set, renew-skip}
@@ -16,7 +16,7 @@ loop-c-again g c =
     let k = g .C·CostModel in
     let index = c .args .index .now in
     let ms = moves-of index in
-    let keep = flag (c .args .keep .now) in
+    let keep = has (c .args .keep .now) in
     let V = looked (k .exact) (c .args .costs .now) in
     let i = c .loop-c .c in
     let t = c .loop-c .offers in

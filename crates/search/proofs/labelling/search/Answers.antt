@@ -7,7 +7,7 @@ use Rattle.std.specs.Of.Vec.{vec-items}
 use Rattle.std.proofs.shelf.Lists.{length-push}
 use Rattle.std.proofs.shelf.Results.{made-from-err}
 use Rattle.search.specs.Labels.{Few, looked}
-use Rattle.search.specs.Answers.{flag}
+use Rattle.plans.specs.Flags.{has}
 use Rattle.search.specs.Indexed.{count-of, moves-of}
 use Rattle.search.specs.Steps.{Picked}
 use Rattle.search.specs.declared.Choice.the-variants.{None}
@@ -38,9 +38,9 @@ loop-c-again g c =
     let k = g .C·CostModel in
     let pushed = c .in-Continue-push .ensures tt .items in
     let i = c .loop-c .c in
-    let picked = subst (λ t. Picked (k .model) (k .exact) (moves-of (c .args .index .now)) (looked (k .exact) t) (flag (c .args .goal .now)) i (c .choose .result)) (c .deref .ensures .value) (c .choose .ensures) in (
+    let picked = subst (λ t. Picked (k .model) (k .exact) (moves-of (c .args .index .now)) (looked (k .exact) t) (has (c .args .goal .now)) i (c .choose .result)) (c .deref .ensures .value) (c .choose .ensures) in (
       ap length pushed ∙ length-push _ _ ∙ ap (λ n. n + 1) (c .loop-c .inv .0),
-      pushed-each (λ d x. Picked (k .model) (k .exact) (moves-of (c .args .index .now)) (looked (k .exact) (vec-items (c .in-Continue-costs .costs))) (flag (c .args .goal .now)) d x) (vec-items (c .loop-c .choices)) (vec-items (c .push .last .self)) (c .choose .result) None i pushed (c .loop-c .inv .0) (c .loop-c .inv .1) picked,
+      pushed-each (λ d x. Picked (k .model) (k .exact) (moves-of (c .args .index .now)) (looked (k .exact) (vec-items (c .in-Continue-costs .costs))) (has (c .args .goal .now)) d x) (vec-items (c .loop-c .choices)) (vec-items (c .push .last .self)) (c .choose .result) None i pushed (c .loop-c .inv .0) (c .loop-c .inv .1) picked,
     )
 
 pub returns : need.returns
@@ -54,5 +54,5 @@ returns g c =
     let inv = c .loop-c .inv in
     record {
       sized = inv .0 ∙ end;
-      each = λ d l. answered (weaken (k .laws)) (k .exact) (g .C·CostModel·met .sized) (moves-of index) (flag (c .args .keep .now)) (flag (c .args .goal .now)) (count-of index) (index-within index) (index-timely index) (vec-items (c .in-Continue-costs .costs)) s d l _ (inv .1 d (subst (λ n. d < n) (sym end) l));
+      each = λ d l. answered (weaken (k .laws)) (k .exact) (g .C·CostModel·met .sized) (moves-of index) (has (c .args .keep .now)) (has (c .args .goal .now)) (count-of index) (index-within index) (index-timely index) (vec-items (c .in-Continue-costs .costs)) s d l _ (inv .1 d (subst (λ n. d < n) (sym end) l));
     }

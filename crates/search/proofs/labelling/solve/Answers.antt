@@ -8,7 +8,7 @@ use Rattle.std.specs.Of.Vec.{vec-items, vec-len}
 use Rattle.std.specs.declared.option.Option.the-variants.{Some, None}
 use Rattle.std.proofs.shelf.Lists.{refilled-is, length-set}
 use Rattle.search.specs.Labels.{Few, Offered, looked, done}
-use Rattle.search.specs.Answers.{flag}
+use Rattle.plans.specs.Flags.{has}
 use Rattle.search.specs.Indexed.{count-of, moves-of, port-of}
 use Rattle.search.specs.Steps.{LeastOf, State, start}
 use Rattle.search.proofs.Bounds.{index-timely, index-within}
@@ -25,11 +25,11 @@ offers-of-requires g c κs =
     let value = c .deref .ensures .value in
     let t = vec-items (c .in-Continue-costs .costs) in
     let all = c .conditions .ensures in
-    let begun : (d : ℕ) → d < count-of index → looked (k .exact) t d ≡ start (k .model) (flag (c .args .goal .now)) d = λ d l. told .1 d (subst (λ n. d < n) (sym all) l) in
+    let begun : (d : ℕ) → d < count-of index → looked (k .exact) t d ≡ start (k .model) (has (c .args .goal .now)) d = λ d l. told .1 d (subst (λ n. d < n) (sym all) l) in
     record {
       sized = ap length value ∙ told .0 ∙ all;
       few = subst (λ u. Few (k .model) (k .exact) 255 u) (sym value)
-          (few-start (weaken (k .laws)) (k .exact) (g .C·CostModel·met .sized) (moves-of index) (flag (c .args .keep .now)) (flag (c .args .goal .now)) (count-of index) (index-within index) (index-timely index) 255 t (told .0 ∙ all) begun);
+          (few-start (weaken (k .laws)) (k .exact) (g .C·CostModel·met .sized) (moves-of index) (has (c .args .keep .now)) (has (c .args .goal .now)) (count-of index) (index-within index) (index-timely index) 255 t (told .0 ∙ all) begun);
     }
 
 pub loop-label-holds : need.loop-label-holds
@@ -37,8 +37,8 @@ loop-label-holds g c =
     let k = g .C·CostModel in
     let index = c .args .index .now in
     let ms = moves-of index in
-    let keep = flag (c .args .keep .now) in
-    let goal = flag (c .args .goal .now) in
+    let keep = has (c .args .keep .now) in
+    let goal = has (c .args .goal .now) in
     let told = c .in-Continue-costs .ensures tt in
     let offers = c .in-Continue-offers .ensures tt in
     let value = c .deref .ensures .value in
@@ -63,8 +63,8 @@ fix-requires g c κs =
     let index = c .args .index .now in
     let ms = moves-of index in
     let n = count-of index in
-    let keep = flag (c .args .keep .now) in
-    let goal = flag (c .args .goal .now) in
+    let keep = has (c .args .keep .now) in
+    let goal = has (c .args .goal .now) in
     let within = index-within index in
     let timely = index-timely index in
     let laws = weaken (k .laws) in
@@ -91,15 +91,15 @@ fix-requires g c κs =
 
 step : (g : _) (c : need.After-offers-in-Some-2·1 g) →
     let k = g .C·CostModel in
-    State (k .model) (k .exact) (moves-of (c .args .index .now)) (flag (c .args .keep .now)) (flag (c .args .goal .now)) (count-of (c .args .index .now)) (vec-items (refilled (c .loop-label .costs) (c .fix .last .costs))) (vec-items (refilled (c .loop-label .offers) (c .fix .last .offers)))
+    State (k .model) (k .exact) (moves-of (c .args .index .now)) (has (c .args .keep .now)) (has (c .args .goal .now)) (count-of (c .args .index .now)) (vec-items (refilled (c .loop-label .costs) (c .fix .last .costs))) (vec-items (refilled (c .loop-label .offers) (c .fix .last .offers)))
     × (done (vec-items (refilled (c .loop-label .costs) (c .fix .last .costs))) ≡ suc (done (vec-items (c .loop-label .costs))))
 step g c =
     let k = g .C·CostModel in
     let index = c .args .index .now in
     let ms = moves-of index in
     let n = count-of index in
-    let keep = flag (c .args .keep .now) in
-    let goal = flag (c .args .goal .now) in
+    let keep = has (c .args .keep .now) in
+    let goal = has (c .args .goal .now) in
     let within = index-within index in
     let timely = index-timely index in
     let laws = weaken (k .laws) in
@@ -138,4 +138,4 @@ returns g c =
     let ms = moves-of index in
     let offers = vec-items (c .loop-label .offers) in
     let none : LeastOf (k .model) (k .exact) offers (length offers) None = subst (λ t. LeastOf (k .model) (k .exact) t (length t) None) (c .deref-in-loop-label .ensures .value) (subst (λ r. LeastOf (k .model) (k .exact) (now (c .deref-in-loop-label .result)) (length (now (c .deref-in-loop-label .result))) r) (c .in-rest .is) (c .least .ensures)) in
-    settled (weaken (k .laws)) (k .exact) (g .C·CostModel·met .sized) ms (flag (c .args .keep .now)) (flag (c .args .goal .now)) (count-of index) (index-within index) (index-timely index) (port-of index .«conditions_few») (vec-items (c .loop-label .costs)) offers (c .loop-label .inv) none
+    settled (weaken (k .laws)) (k .exact) (g .C·CostModel·met .sized) ms (has (c .args .keep .now)) (has (c .args .goal .now)) (count-of index) (index-within index) (index-timely index) (port-of index .«conditions_few») (vec-items (c .loop-label .costs)) offers (c .loop-label .inv) none
