@@ -8,7 +8,7 @@ use native.Mathlib.Omega.{arith}
 use lib.ListN.{length, getD, take, drop, length-map}
 use Rattle.std.proofs.shelf.Lists.{getD-map, getD-take}
 use Rattle.plans.specs.Simulation.{Domain, WellFormed, InRange, Kept, Rank}
-use Rattle.plans.specs.Flags.{pairs, task-at}
+use Rattle.plans.specs.Flags.{pairs, rank-at, task-at}
 use Rattle.plans.proofs.Flags.{row-within}
 use Rattle.search.specs.Costs.{Model}
 use Rattle.search.specs.declared.Choice.{Choice}
@@ -24,6 +24,7 @@ use Rattle.plans.specs.Domains.{domain-of, task-of}
 use Rattle.solver.specs.declared.Entry.{Entry}
 use Rattle.solver.specs.declared.Entry.the-variants.{None as NoEntry}
 use Rattle.solver.proofs.Freshness.{task-staged}
+use Rattle.solver.proofs.KeptSets.{kept-largest, kept-simulates}
 use Rattle.solver.proofs.Policies.{answer-right}
 
 -- what is read from the front of a list that is a copy
@@ -39,13 +40,18 @@ module _ {K : Type 0} (k : Model) (e : K → List ℕ) (D : Domain) (wf : WellFo
   place : (q c : ℕ) → q < length (D .tasks) → c < D .conditions → q * D .conditions + c < length choices
   place q c l h = omega (arith, row-within q (length (D .tasks)) (D .conditions) (length choices) l (w .chosen .long))
 
+  ranks-right : (s c : ℕ) → InRange D s c → Rank D s c (rank-at (D .conditions) ranks s c)
+  ranks-right s c r =
+      let l : s * D .conditions + c < length from = omega (arith, r .1, row-within s (D .stages) (D .conditions) (length from) (r .0) (w .ranked .ranks-long)) in
+      let same : getD from (s * D .conditions + c) 0 ≡ getD ranks (s * D .conditions + c) 0 =
+      sym (ap (λ xs. getD xs (s * D .conditions + c) 0) ranks-here) ∙ getD-take (length from) ranks (s * D .conditions + c) 0 l in
+      subst (λ (n : ℕ). Rank D s c n) same (w .ranked .ranked s c r)
+
   pub worked-solved : Solved (world-of D k e entries costs ranks)
   worked-solved = record {
-    ranked = λ s c r.
-        let l : s * D .conditions + c < length from = omega (arith, r .1, row-within s (D .stages) (D .conditions) (length from) (r .0) (w .ranked .ranks-long)) in
-        let same : getD from (s * D .conditions + c) 0 ≡ getD ranks (s * D .conditions + c) 0 =
-        sym (ap (λ xs. getD xs (s * D .conditions + c) 0) ranks-here) ∙ getD-take (length from) ranks (s * D .conditions + c) 0 l in
-        subst (λ (n : ℕ). Rank D s c n) same (w .ranked .ranked s c r);
+    ranked = ranks-right;
+    simulates = kept-simulates (world-of D k e entries costs ranks) ranks-right;
+    largest = kept-largest (world-of D k e entries costs ranks) ranks-right;
     entered = λ q c l h.
         let row = w .chosen .rows q l in
         let i : ℕ = q * D .conditions + c in

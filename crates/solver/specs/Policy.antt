@@ -1,11 +1,12 @@
 -- What a policy and its ranks promise, in the words of plans and simulations.
 use mathlib.Core.Path.{_≡_}
-use mathlib.Core.Bool.{Bool}
+use mathlib.Core.Bool.{Bool, _&&_}
 use mathlib.Core.List.{List, map}
 use Prim.Native.Nat.{ℕ, _+_, _*_, _<_, _≤_}
+use lib.Dec.{eqb, ltb}
 use lib.ListN.{length, getD}
 use Rattle.plans.specs.Plans.{Plan, stop, work}
-use Rattle.plans.specs.Simulation.{Domain, Task, Meets, EndsIn, InRange, Kept, Rank}
+use Rattle.plans.specs.Simulation.{Domain, Meets, EndsIn, Holds, InRange, Kept, Rank, Simulation}
 use Rattle.plans.specs.Flags.{task-at, rank-at}
 use Rattle.search.specs.Costs.{Model, Le}
 use Rattle.search.specs.Answers.{Costs}
@@ -52,9 +53,15 @@ Right w q c None f = ((plan : Plan) → Safe w q plan c → ⊥) × (f ≡ w .mo
 Right w q c There f = Safe w q stop c × (f ≡ w .model .zero)
 Right w q c (Work o) f = (Safe w q stop c → ⊥) × Best w q c o f
 
--- Each rank is the pair's, and each entry and cost is right.
+-- The set of the port's pairs that have rank 0.
+abbrev pub kept-set : World → ℕ → ℕ → Bool
+kept-set w s c = ltb s (w .domain .stages) && (ltb c (w .domain .conditions) && eqb (w .rank s c) 0)
+
+-- Each rank is the pair's, the pairs of rank 0 are the largest simulation, and each entry and cost is right.
 pub record Solved (w : World) : Type 0 where
   pub ranked : (s c : ℕ) → InRange (w .domain) s c → Rank (w .domain) s c (w .rank s c)
+  pub simulates : Simulation (w .domain) (kept-set w)
+  pub largest : (R : ℕ → ℕ → Bool) → Simulation (w .domain) R → (s c : ℕ) → Holds R s c → Holds (kept-set w) s c
   pub entered : (q c : ℕ) → q < length (w .domain .tasks) → c < w .domain .conditions → Right w q c (w .entry q c) (w .cost q c)
 
 -- The world that filled buffers tell. Entries and costs go by request, ranks by stage, and then each by condition.
