@@ -17,7 +17,7 @@ import sys
 WORD = re.compile(r'[^\s(){}.;,@"«»]+')
 DECLARED = re.compile(r"(?m)^ *(?:(?:pub|abbrev|unfoldable|opaque|data|record|irreducible|instance) +)*([^\s(){}.;,@\"«»]+)(?= *(?:[({][^\n]*)? :)")
 CONSTRUCTED = re.compile(r"\{-.*?-\}|--[^\n]*", re.S)
-MADE_AT = re.compile(r"(?m)^ *(?:pub +)?(\S+) : goal\.")
+MADE_AT = re.compile(r"(?m)^ *(?:abbrev +)?(?:pub +)?(\S+) : goal\.")
 CLAUSE = re.compile(r"(?:requires|ensures)\s*\*?\s*(?:\w+\s*)?\{|ghost\s*(?:\w+\s*(?::\s*(?:(?:owns|lends)\s*)?|=\s*))?\{")
 GHOST_USE = re.compile(r"ghost\s+use\b[^;]*;")
 COMMENT = re.compile(r"//[^\n]*")

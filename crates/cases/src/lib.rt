@@ -1,4 +1,6 @@
 // Worked examples, as theorems about the definitions. Each function stands for the rows of one list, by its contract.
+#![tactic(auto)]
+
 ghost use Rattle.cases.specs.Formulas.{FaultyHold, FormulasHold};
 ghost use Rattle.cases.specs.Policies.{PoliciesHold};
 ghost use Rattle.cases.specs.Ranks.{RanksHold};

@@ -1,4 +1,5 @@
 // A controller carries out a policy at a lock: it quotes, grants, steps and closes, and refuses by number.
+#![tactic(auto)]
 
 mod answer;
 mod calls;

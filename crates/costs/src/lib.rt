@@ -1,4 +1,6 @@
 // What a run costs: cost models, the two that there are, and how costs are compared.
+#![tactic(auto)]
+
 mod compare;
 mod model;
 mod models;

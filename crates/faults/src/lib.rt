@@ -1,4 +1,6 @@
 // What can be wrong with a sheet, layer by layer, and what a fault tells: its number, its place and its layer.
+#![tactic(auto)]
+
 mod errors;
 mod layers;
 mod show;

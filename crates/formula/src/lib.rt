@@ -1,4 +1,6 @@
 // The text of a formula: sums of products of atoms, over bytes. Readers of the three call each other.
+#![tactic(auto)]
+
 ghost use Rattle.std.specs.Prelude.{◌≡◌, ◌≤◌, true, false, length, MatchResult};
 ghost use Rattle.formula.specs.Grammar.{
   AtomRead,

@@ -1,4 +1,6 @@
 // What a controller is asked, and what it promises over whole histories of calls.
+#![tactic(auto)]
+
 ghost use Rattle.histories.specs.Promise.{OpeningHolds, PromiseHolds};
 
 // What is asked of a controller: each names a request.

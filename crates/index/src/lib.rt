@@ -1,4 +1,6 @@
 // A port with an index of the moves from a condition and of those into one: made once for all searches.
+#![tactic(auto)]
+
 ghost use Rattle.std.specs.Prelude.{◌≡◌, ◌+◌, ◌*◌, ◌<◌, false, vec_len, Decides};
 ghost use Rattle.index.specs.Indexes.{Ahead, Apart, Behind, Ends, Flags, From, Timed};
 

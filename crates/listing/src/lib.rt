@@ -1,4 +1,6 @@
 // The page of a sheet: which pairs are kept, and the policy under each cost model; or the sheet's fault.
+#![tactic(auto)]
+
 ghost use Rattle.std.specs.Prelude.{◌≡◌, IfOk, vec_len};
 
 mod parts;

@@ -1,4 +1,6 @@
 // Reads a sheet from standard input, and prints its page.
+#![tactic(auto)]
+
 use listing::page;
 use std::io::Read;
 

@@ -1,4 +1,5 @@
 // Locks: what a lock is to whoever works it, and two of them.
+#![tactic(auto)]
 
 mod least;
 mod lock;

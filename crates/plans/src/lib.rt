@@ -1,5 +1,7 @@
 // Plans, simulation relations and ranks: what is proved of every well-formed domain.
 // Each function stands for a theorem, which is its contract.
+#![tactic(auto)]
+
 ghost use Rattle.plans.specs.Theorems.{LargestSimulation, LeftServes, OneRank, ReachedAttains};
 
 // The iteration over pairs ends in the largest simulation.

@@ -1,4 +1,6 @@
 // A port: the conditions of a lock, the moves between them, and the requests of a programme.
+#![tactic(auto)]
+
 ghost use Rattle.std.specs.Prelude.{◌<◌, ◌≤◌, vec_len};
 
 mod held;

@@ -1,4 +1,6 @@
 // Reads the bytes of a sheet one after another: its header, and the fields of its records.
+#![tactic(auto)]
+
 mod bytes;
 mod fields;
 mod header;

@@ -1,5 +1,7 @@
 // How a sheet is read, defined apart from any program, and what is proved of that reading.
 // Each function stands for a theorem, which is its contract.
+#![tactic(auto)]
+
 ghost use Rattle.reading.specs.Theorems.{Grammatical, Taken, Written};
 
 // A sheet that is taken is the one sheet of a valid port.

@@ -1,4 +1,6 @@
 // Reads the records of a sheet, each against what the header and the records before it tell.
+#![tactic(auto)]
+
 mod draft;
 mod judge;
 mod kinds;

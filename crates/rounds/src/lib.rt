@@ -1,4 +1,6 @@
 // Judges a port: which pairs of stage and condition are kept, the rank of each, and where each request may be worked and may end.
+#![tactic(auto)]
+
 mod flags;
 mod judging;
 mod service;

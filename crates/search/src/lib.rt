@@ -1,4 +1,6 @@
 // The cheapest plan from each condition of a port to a goal, under any cost model that keeps the laws.
+#![tactic(auto)]
+
 mod labelling;
 
 pub use labelling::search;

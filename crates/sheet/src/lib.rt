@@ -1,4 +1,6 @@
 // Reads a sheet of bytes into a port, or tells why the sheet is refused.
+#![tactic(auto)]
+
 mod build;
 mod loader;
 

@@ -1,4 +1,6 @@
 // Solves a port: ranks its pairs, and fills a policy for its requests, under any lawful cost model.
+#![tactic(auto)]
+
 ghost use Rattle.std.specs.Prelude.{◌≡◌, Some};
 ghost use Rattle.solver.specs.Policy.{entry_byte, entry_text};
 ghost use Rattle.solver.specs.Solving.{refusal_number};

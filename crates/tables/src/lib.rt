@@ -1,4 +1,6 @@
 // A table has for each condition a cost or none: what is read from it, and its least.
+#![tactic(auto)]
+
 ghost use Rattle.std.specs.Prelude.{◌≡◌, length, Some, None, Decides, slice_index_or};
 ghost use Rattle.costs.specs.Compare.{under_of};
 ghost use Rattle.tables.specs.Tables.{AllBelow, LeastOf, LowPlace, labelled_of, looked};

@@ -1,4 +1,6 @@
 // Reads sheets in hex, one a line, and prints the page of each.
+#![tactic(auto)]
+
 use listing::page;
 use std::alloc::{AllocError, Global};
 use std::io::{BufRead, BufReader};

@@ -1,4 +1,6 @@
 // Works the Low Staithe sheet from load to listing, and prints each action.
+#![tactic(auto)]
+
 mod policies;
 mod sheets;
 

@@ -2,11 +2,11 @@ use Rattle.std.proofs.lemmas.Result.{err_from_is_err_and}
 use Rattle.formula.proofs.Language.{whole_verdict}
 use Rattle.formula.proofs.check.Goals as goal
 
-pub returns-in-err-evaluate : goal.returns-in-err-evaluate
-returns-in-err-evaluate c =
-    let p = err_from_is_err_and c.from-residual.result c.from-residual.ensures.1 in
-    let r = c.in-err-evaluate.ensures in
+pub returns-in_err-evaluate : goal.returns-in_err-evaluate
+returns-in_err-evaluate c =
+    let p = err_from_is_err_and c.from_residual.result c.from_residual.ensures.1 in
+    let r = c.in_err-evaluate.ensures in
     rw (p.1, p.2) (r.1, r.0.within, r.0)
 
 pub returns : goal.returns
-returns c = let r = c.in-ok-evaluate.ensures in (whole_verdict _ _ _ _ r.0, r.2)
+returns c = let r = c.in_ok-evaluate.ensures in (whole_verdict _ _ _ _ r.0, r.2)

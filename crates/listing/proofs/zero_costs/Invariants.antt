@@ -1,5 +1,5 @@
 use Rattle.std.proofs.Common.{◌≡◌, vec_len}
 use Rattle.listing.proofs.zero_costs.Given as goal
 
-abbrev pub invariant_loop : goal.invariant-loop
-invariant_loop g l = vec_len l.costs ≡ l.counter
+abbrev pub invariant-loop : goal.invariant-loop
+invariant-loop g l = vec_len l.costs ≡ l.counter

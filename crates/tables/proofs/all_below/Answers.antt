@@ -5,10 +5,10 @@ use Rattle.tables.specs.Tables.{looked}
 use Rattle.index.proofs.Lists.{in_each, in_get_d}
 use Rattle.tables.proofs.all_below.Goals as goal
 
-pub returns-then-not-leads-below : goal.returns-then-not-leads-below
-returns-then-not-leads-below g c = (
+pub returns-then-not-leads_below : goal.returns-then-not-leads_below
+returns-then-not-leads_below g c = (
   (λ e. absurd (true≢false (sym e))),
-  λ h. absurd (true≢false (sym (h _ (in_get_d no_move c.args.moves.now c.loop-m.m-index c.loop-m-test.true)) ∙ sym c.leads-below.ensures ∙ c.if-not-leads-below.true)),
+  λ h. absurd (true≢false (sym (h _ (in_get_d no_move c.args.moves.now c.loop-m.m-index c.loop-m-test.true)) ∙ sym c.leads_below.ensures ∙ c.if-not-leads_below.true)),
 )
 
 pub returns : goal.returns

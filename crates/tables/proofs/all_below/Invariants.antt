@@ -4,5 +4,5 @@ use Rattle.costs.specs.Compare.{under_of}
 use Rattle.tables.specs.Tables.{looked}
 use Rattle.tables.proofs.all_below.Given as goal
 
-abbrev pub invariant_loop_m : goal.invariant-loop-m
-invariant_loop_m g l = let k = g.C.CostModel in (j : ℕ) → j < l.m-index → under_of k.model (looked k.exact l.costs (at l.moves j).outcome) (Some (k.exact l.cost)) ≡ true
+abbrev pub invariant-loop-m : goal.invariant-loop-m
+invariant-loop-m g l = let k = g.C.CostModel in (j : ℕ) → j < l.m-index → under_of k.model (looked k.exact l.costs (at l.moves j).outcome) (Some (k.exact l.cost)) ≡ true

@@ -9,4 +9,4 @@ returns g c =
     let k = g.C.CostModel in
     let t = c.args.offers.now in
     subst (LeastOf k.model k.exact t (length t)) (sym c.labelled.ensures)
-    (place_least (weaken k.laws) k.exact g.met.C.CostModel.sized t c.least-place-best.result c.cost-at.result c.cost-at.ensures c.least-place-best.ensures)
+    (place_least (weaken k.laws) k.exact g.met.C.CostModel.sized t c.least_place-best.result c.cost_at.result c.cost_at.ensures c.least_place-best.ensures)

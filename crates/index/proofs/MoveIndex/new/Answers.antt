@@ -4,8 +4,8 @@ use Rattle.port.specs.declared.Move.{Move}
 use Rattle.index.proofs.Bounds.{port_exist}
 use Rattle.index.proofs.MoveIndex.new.Goals as goal
 
-pub starts-of-requires : goal.starts-of-requires
-starts-of-requires c =
+pub starts_of-requires : goal.starts_of-requires
+starts_of-requires c =
     let p = c.args.port.now in
     let len : c.len-conditions.result ≡ vec_len p.conditions = c.len-conditions.ensures in
     let value = c.deref-2.ensures.value in

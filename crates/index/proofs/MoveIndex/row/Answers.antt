@@ -27,25 +27,25 @@ places s c a b l p q ms e =
     let m = ap length e in
     record { first = first; second = second; rise = omega arith; inside = omega arith }
 
-pub slice-bounds-result-count : goal.slice-bounds-result-count
-slice-bounds-result-count c = let h = places c.args.self.now c.args.c c.index-start.result.now c.index-end.result.now c.requires c.index-start.ensures c.index-end.ensures c.deref.result.now c.deref.ensures.value in h.rise
+pub slice_bounds-result-count : goal.slice_bounds-result-count
+slice_bounds-result-count c = let h = places c.args.self.now c.args.c c.index-start.result.now c.index-end.result.now c.requires c.index-start.ensures c.index-end.ensures c.deref.result.now c.deref.ensures.value in h.rise
 
-pub offset-bounds-deref-start : goal.offset-bounds-deref-start
-offset-bounds-deref-start c =
+pub offset_bounds-deref-start : goal.offset_bounds-deref-start
+offset_bounds-deref-start c =
     let h = places c.args.self.now c.args.c c.index-start.result.now c.index-end.result.now c.requires c.index-start.ensures c.index-end.ensures c.deref.result.now c.deref.ensures.value in
     let r = h.rise in
     let i = h.inside in
     let a : c.index-start.result.now ≤ length c.deref.result.now = omega arith in
     search rules
 
-pub slice-bounds-result-start : goal.slice-bounds-result-start
-slice-bounds-result-start c =
+pub slice_bounds-result-start : goal.slice_bounds-result-start
+slice_bounds-result-start c =
     let h = places c.args.self.now c.args.c c.index-start.result.now c.index-end.result.now c.requires c.index-start.ensures c.index-end.ensures c.deref.result.now c.deref.ensures.value in
     let r = h.rise in
     search rules
 
-pub slice-bounds-result-end : goal.slice-bounds-result-end
-slice-bounds-result-end c =
+pub slice_bounds-result-end : goal.slice_bounds-result-end
+slice_bounds-result-end c =
     let h = places c.args.self.now c.args.c c.index-start.result.now c.index-end.result.now c.requires c.index-start.ensures c.index-end.ensures c.deref.result.now c.deref.ensures.value in
     let i = h.inside in
     search rules

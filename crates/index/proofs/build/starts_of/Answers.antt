@@ -9,10 +9,10 @@ use Rattle.index.proofs.build.starts_of.Goals as goal
 pub loop-c-preserved : goal.loop-c-preserved
 loop-c-preserved c =
     let ms = c.args.moves.now in
-    let r = c.first-from-at.result in
-    let told = c.first-from-at.ensures in
+    let r = c.first_from-at.result in
+    let told = c.first_from-at.ensures in
     let inv = c.loop-c.invariant in
-    let pushed = c.in-ok-push.ensures.items in
+    let pushed = c.in_ok-push.ensures.items in
     let old = vec_items c.loop-c.starts in
     let new = vec_items c.push.new.self in
     let i = c.loop-c.c in

@@ -3,8 +3,8 @@ use Rattle.port.specs.Limits.{at}
 use Rattle.index.specs.Indexes.{Starts}
 use Rattle.index.proofs.build.starts_of.Given as goal
 
-abbrev pub invariant_loop_c : goal.invariant-loop-c
-invariant_loop_c l =
+abbrev pub invariant-loop-c : goal.invariant-loop-c
+invariant-loop-c l =
     (vec_len l.starts ≡ l.c)
     × (l.at ≤ length l.moves)
     × ((i : ℕ) → i < l.at → (at l.moves i).condition < l.c)

@@ -5,15 +5,15 @@ use Rattle.locks.specs.Works.{change}
 use Rattle.locks.proofs.Going.{nearest_first, nearest_stays, nearest_yields}
 use Rattle.locks.proofs.least.better.Goals as goal
 
-pub returns-then-is-nearer : goal.returns-then-is-nearer
-returns-then-is-nearer c ds h =
+pub returns-then-is_nearer : goal.returns-then-is_nearer
+returns-then-is_nearer c ds h =
     let changes = change (model_of c.args.port.now) c.args.condition in
-    nearest_yields changes ds c.args.outcome c.in-Some.best (subst (λ (b : Option ℕ). Nearest changes ds b) c.in-Some.is h) (c.is-nearer.ensures.wins c.if-is-nearer.true)
+    nearest_yields changes ds c.args.outcome c.in-Some.best (subst (λ (b : Option ℕ). Nearest changes ds b) c.in-Some.is h) (c.is_nearer.ensures.wins c.if-is_nearer.true)
 
-pub returns-else-is-nearer : goal.returns-else-is-nearer
-returns-else-is-nearer c ds h =
+pub returns-else-is_nearer : goal.returns-else-is_nearer
+returns-else-is_nearer c ds h =
     let changes = change (model_of c.args.port.now) c.args.condition in
-    nearest_stays changes ds c.args.outcome c.in-Some.best (subst (λ (b : Option ℕ). Nearest changes ds b) c.in-Some.is h) (c.is-nearer.ensures.loses c.if-is-nearer.false)
+    nearest_stays changes ds c.args.outcome c.in-Some.best (subst (λ (b : Option ℕ). Nearest changes ds b) c.in-Some.is h) (c.is_nearer.ensures.loses c.if-is_nearer.false)
 
 pub returns-in-None : goal.returns-in-None
 returns-in-None c ds h =

@@ -6,7 +6,7 @@ use Rattle.rounds.proofs.flags.narrow.Goals as goal
 pub loop-c-preserved : goal.loop-c-preserved
 loop-c-preserved c =
     let flags : List Bool = c.loop-c.next in
-    let base : ℕ = c.args.next-at in
+    let base : ℕ = c.args.next_at in
     let i : ℕ = c.loop-c.c in (
       row_here flags base i c.stays.result (λ k. has c.args.next.now (base + k) && has c.args.served.now (c.args.at + k))
           (omega arith) c.loop-c.invariant.0

@@ -7,9 +7,9 @@ use Rattle.rounds.proofs.judging.fill.Goals as goal
 
 pub returns : goal.returns
 returns c =
-    let r = c.in-ok-rank-pairs.ensures in
+    let r = c.in_ok-rank_pairs.ensures in
     record {
-      goals = goal_rows (domain_in c.args.index.now) (port_formed (port_of c.args.index.now)) c.rank-pairs.new.alive c.set-goals.new.goals
-          c.rank-pairs.new.ranks r (c.set-goals.auto.goals ∙ c.rank-pairs.auto.goals ∙ c.requires.goals) c.set-goals.ensures;
+      goals = goal_rows (domain_in c.args.index.now) (port_formed (port_of c.args.index.now)) c.rank_pairs.new.alive c.set_goals.new.goals
+          c.rank_pairs.new.ranks r (c.set_goals.auto.goals ∙ c.rank_pairs.auto.goals ∙ c.requires.goals) c.set_goals.ensures;
       ranks = record { long = r.ranks_long; each = r.ranked };
     }

@@ -6,8 +6,8 @@ use Rattle.rounds.specs.Rounds.{domain_in}
 use Rattle.rounds.proofs.Goings.{going_start}
 use Rattle.rounds.proofs.judging.rank_pairs.Goals as goal
 
-pub run-rounds-requires : goal.run-rounds-requires
-run-rounds-requires c =
+pub run_rounds-requires : goal.run_rounds-requires
+run_rounds-requires c =
     let D : Domain = domain_in c.args.index.now in
     let wf : WellFormed D = port_formed (port_of c.args.index.now) in
     let wide : c.conditions-width.result ≡ D.conditions = c.conditions-width.ensures ∙ (port_of c.args.index.now).conditions.ok.0 in
@@ -16,9 +16,9 @@ run-rounds-requires c =
     record {
       tasks = c.requires.tasks;
       start = going_start D _ _ _ _ _ _ c.requires.goals
-          (c.deref-mut.ensures.len ∙ c.in-ok-served.ensures.len ∙ ap₂ ◌*◌ many wide)
-          (c.deref-mut-2.ensures.value ∙ c.in-ok-lost.ensures.items-if-clones-equal (λ y e. e) ∙ ap (λ (n : ℕ). replicate n true) high)
+          (c.deref_mut.ensures.len ∙ c.in_ok-served.ensures.len ∙ ap₂ ◌*◌ many wide)
+          (c.deref_mut-2.ensures.value ∙ c.in_ok-lost.ensures.items-if-clones-equal (λ y e. e) ∙ ap (λ (n : ℕ). replicate n true) high)
           c.requires.alive
-          (c.deref-mut-3.ensures.value ∙ c.in-ok-next.ensures.items-if-clones-equal (λ y e. e) ∙ ap (λ (n : ℕ). replicate n true) (ap₂ ◌*◌ high wide))
+          (c.deref_mut-3.ensures.value ∙ c.in_ok-next.ensures.items-if-clones-equal (λ y e. e) ∙ ap (λ (n : ℕ). replicate n true) (ap₂ ◌*◌ high wide))
           c.requires.ranks wf;
     }

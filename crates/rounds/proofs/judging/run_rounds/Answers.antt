@@ -16,18 +16,18 @@ loop-changed-preserved c =
     subst (λ (b : Bool). Going D c.loop-changed.goals c.loop-changed.served c.loop-changed.lost c.loop-changed.alive c.loop-changed.next c.loop-changed.ranks k b)
     c.loop-changed-test.true c.loop-changed.invariant in
     let wide : c.conditions-width.result ≡ D.conditions = c.conditions-width.ensures ∙ (port_of c.args.index.now).conditions.ok.0 in
-    let next : List Bool = c.run-round.new.next in
-    let e = c.in-ok-run-round.ensures in
+    let next : List Bool = c.run_round.new.next in
+    let e = c.in_ok-run_round.ensures in
     let d : Dropped c.loop-changed.alive c.settle-changed.new.alive c.loop-changed.ranks c.settle-changed.new.ranks (suc k) c.settle-changed.result =
     rw add-one at c.settle-changed.ensures.dropped in
-    let same = subst (λ (n : ℕ). (s x : ℕ) → s < length c.note-lost.new.lost → x < n → has c.note-lost.new.lost s ≡ false →
-    pairs n next s x ≡ pairs n c.loop-changed.alive s x) wide c.note-lost.ensures in
+    let same = subst (λ (n : ℕ). (s x : ℕ) → s < length c.note_lost.new.lost → x < n → has c.note_lost.new.lost s ≡ false →
+    pairs n next s x ≡ pairs n c.loop-changed.alive s x) wide c.note_lost.ensures in
     rw add-one
-    (going_turn D wf c.loop-changed.goals c.run-round.new.goals c.loop-changed.served c.run-round.new.served c.loop-changed.lost c.note-lost.new.lost
+    (going_turn D wf c.loop-changed.goals c.run_round.new.goals c.loop-changed.served c.run_round.new.served c.loop-changed.lost c.note_lost.new.lost
     c.loop-changed.alive c.settle-changed.new.alive c.loop-changed.next next c.loop-changed.ranks c.settle-changed.new.ranks k c.settle-changed.result
-    g c.run-round.auto.goals c.run-round.auto.served c.note-lost.auto.lost c.run-round.auto.next
+    g c.run_round.auto.goals c.run_round.auto.served c.note_lost.auto.lost c.run_round.auto.next
     e.fresh e.down e.left
-    (λ s x ls lx f. same s x (omega (arith, c.note-lost.auto.lost, g.lost-long)) lx f)
+    (λ s x ls lx f. same s x (omega (arith, c.note_lost.auto.lost, g.lost-long)) lx f)
     d c.settle-changed.ensures.left)
 
 pub returns : goal.returns

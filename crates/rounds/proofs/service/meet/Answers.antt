@@ -8,9 +8,9 @@ loop-c-preserved c =
     let flags : List Bool = c.loop-c.goals in
     let base : ℕ = c.args.at in
     let i : ℕ = c.loop-c.c in
-    let v : Bool = c.is-goal.result in (
-      row_here flags base i v (λ k. has (vec_items c.args.tasks.now.reach) (base + k) && has c.args.alive.now (c.args.alive-at + k))
-          (omega arith) c.loop-c.invariant.0 c.is-goal.ensures,
+    let v : Bool = c.is_goal.result in (
+      row_here flags base i v (λ k. has (vec_items c.args.tasks.now.reach) (base + k) && has c.args.alive.now (c.args.alive_at + k))
+          (omega arith) c.loop-c.invariant.0 c.is_goal.ensures,
       row_below flags base i v (has c.args.goals.now) c.loop-c.invariant.1,
       row_above flags base i v (has c.args.goals.now) c.loop-c.invariant.2,
     )

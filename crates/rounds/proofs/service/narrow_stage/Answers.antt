@@ -8,8 +8,8 @@ use Rattle.rounds.proofs.Freshness.{from_fits, leg_from, row_fits}
 use Rattle.rounds.proofs.Turns.{narrowed_at}
 use Rattle.rounds.proofs.service.narrow_stage.Goals as goal
 
-pub overflow-mul-from : goal.overflow-mul-from
-overflow-mul-from c =
+pub overflow_mul-from : goal.overflow_mul-from
+overflow_mul-from c =
     let D : Domain = domain_in c.args.index.now in
     let wf : WellFormed D = port_formed (port_of c.args.index.now) in
     let wide : c.conditions-width.result ≡ D.conditions = c.conditions-width.ensures ∙ (port_of c.args.index.now).conditions.ok.0 in

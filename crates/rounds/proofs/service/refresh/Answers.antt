@@ -16,8 +16,8 @@ bounds-lost-index c =
     let wf : WellFormed D = port_formed (port_of c.args.index.now) in
     omega (arith, leg_staged D wf c.args.tasks.now c.requires.tasks c.args.i c.requires.within c.index.result.now c.index.ensures)
 
-pub slice-bounds-serve-end : goal.slice-bounds-serve-end
-slice-bounds-serve-end c =
+pub slice_bounds-serve-end : goal.slice_bounds-serve-end
+slice_bounds-serve-end c =
     let D : Domain = domain_in c.args.index.now in
     let wide : c.conditions-width.result ≡ D.conditions = c.conditions-width.ensures ∙ (port_of c.args.index.now).conditions.ok.0 in
     omega (
@@ -26,14 +26,14 @@ slice-bounds-serve-end c =
           (c.deref.ensures.len ∙ c.requires.tasks.keep_long) wide,
     )
 
-pub slice-bounds-serve-end-2 : goal.slice-bounds-serve-end-2
-slice-bounds-serve-end-2 c =
+pub slice_bounds-serve-end-2 : goal.slice_bounds-serve-end-2
+slice_bounds-serve-end-2 c =
     let D : Domain = domain_in c.args.index.now in
     let wide : c.conditions-width.result ≡ D.conditions = c.conditions-width.ensures ∙ (port_of c.args.index.now).conditions.ok.0 in
     omega (
       arith,
-      row_fits c.args.i (length D.tasks) D.conditions c.conditions-width.result (length c.set-goal.new.goals) c.requires.within
-          (c.set-goal.auto.goals ∙ c.requires.goals) wide,
+      row_fits c.args.i (length D.tasks) D.conditions c.conditions-width.result (length c.set_goal.new.goals) c.requires.within
+          (c.set_goal.auto.goals ∙ c.requires.goals) wide,
     )
 
 pub serve-requires : goal.serve-requires
@@ -56,7 +56,7 @@ returns c =
     record {
       fresh = IfOk-weaker c.serve.result _ _
           (λ v h. served_row D wf c.args.tasks.now c.requires.tasks c.args.i c.requires.within c.args.alive.now c.serve.new.served
-          c.set-goal.new.goals c.deref.result.now g wide c.deref.ensures.value c.set-goal.ensures.here
+          c.set_goal.new.goals c.deref.result.now g wide c.deref.ensures.value c.set_goal.ensures.here
           (λ x l. h x (subst (λ (n : ℕ). x < n) (sym long) l)))
           c.serve.ensures.here;
       rest = IfOk-weaker c.serve.result _ _

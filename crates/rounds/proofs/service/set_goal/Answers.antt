@@ -7,8 +7,8 @@ use Rattle.rounds.proofs.Freshness.{goal_aims, leg_to, row_fits, to_fits}
 use Rattle.rounds.proofs.Turns.{besides_at}
 use Rattle.rounds.proofs.service.set_goal.Goals as goal
 
-pub overflow-mul-to : goal.overflow-mul-to
-overflow-mul-to c =
+pub overflow_mul-to : goal.overflow_mul-to
+overflow_mul-to c =
     let D : Domain = domain_in c.args.index.now in
     let wf : WellFormed D = port_formed (port_of c.args.index.now) in
     let wide : c.conditions-width.result ≡ D.conditions = c.conditions-width.ensures ∙ (port_of c.args.index.now).conditions.ok.0 in

@@ -5,8 +5,8 @@ use Rattle.rounds.proofs.tables.add_row.Goals as goal
 
 pub loop-marks-preserved : goal.loop-marks-preserved
 loop-marks-preserved c =
-    row_more (λ m. truth _ m _) _ _ _ _ _ _ 0 c.as-slice-marks-items.ensures.value c.loop-marks-test.true c.loop-marks.invariant
-    (c.in-ok-push.ensures.items ∙ ap (λ v. vec_items c.loop-marks.flags ++ v ∷ []) c.holds.ensures)
+    row_more (λ m. truth _ m _) _ _ _ _ _ _ 0 c.as_slice-marks-items.ensures.value c.loop-marks-test.true c.loop-marks.invariant
+    (c.in_ok-push.ensures.items ∙ ap (λ v. vec_items c.loop-marks.flags ++ v ∷ []) c.holds.ensures)
 
 pub returns : goal.returns
-returns c = row_all _ _ _ _ _ _ c.as-slice-marks-items.ensures.value c.loop-marks-test.false c.loop-marks.invariant
+returns c = row_all _ _ _ _ _ _ c.as_slice-marks-items.ensures.value c.loop-marks-test.false c.loop-marks.invariant

@@ -10,19 +10,19 @@ pub worst-requires : goal.worst-requires
 worst-requires g c =
     let k = g.C.CostModel in
     λ m a h q.
-    let below = c.all-below.ensures.0 c.if-all-below.true m h in
+    let below = c.all_below.ensures.0 c.if-all_below.true m h in
     c.requires m.outcome a q (not_true _ (subst (λ x. under_of k.model (shown k.exact x) (Some (k.exact c.args.cost)) ≡ true) q below))
 
-pub returns-then-all-below : goal.returns-then-all-below
-returns-then-all-below g c =
+pub returns-then-all_below : goal.returns-then-all_below
+returns-then-all_below g c =
     let k = g.C.CostModel in
     let cs = c.args.costs.now in
-    greatest_is (weaken k.laws) (looked k.exact cs) (looked_sized k.model k.exact g.met.C.CostModel.sized cs) c.args.moves.now (k.exact c.args.cost) _ _ c.worst.ensures c.comes-to.ensures
+    greatest_is (weaken k.laws) (looked k.exact cs) (looked_sized k.model k.exact g.met.C.CostModel.sized cs) c.args.moves.now (k.exact c.args.cost) _ _ c.worst.ensures c.comes_to.ensures
 
-pub returns-else-all-below : goal.returns-else-all-below
-returns-else-all-below g c =
+pub returns-else-all_below : goal.returns-else-all_below
+returns-else-all_below g c =
     let k = g.C.CostModel in
     let cs = c.args.costs.now in (
-      (λ e. absurd (true≢false (sym e ∙ c.if-all-below.false))),
-      (λ w. c.all-below.ensures.1 (worst_below k.laws (looked k.exact cs) (looked_sized k.model k.exact g.met.C.CostModel.sized cs) c.args.moves.now (k.exact c.args.cost) w)),
+      (λ e. absurd (true≢false (sym e ∙ c.if-all_below.false))),
+      (λ w. c.all_below.ensures.1 (worst_below k.laws (looked k.exact cs) (looked_sized k.model k.exact g.met.C.CostModel.sized cs) c.args.moves.now (k.exact c.args.cost) w)),
     )

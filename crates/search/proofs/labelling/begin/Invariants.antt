@@ -4,5 +4,5 @@ use Rattle.plans.specs.Flags.{has}
 use Rattle.search.specs.Steps.{start}
 use Rattle.search.proofs.labelling.begin.Given as goal
 
-abbrev pub invariant_loop_c : goal.invariant-loop-c
-invariant_loop_c g l = let k = g.C.CostModel in (length (vec_items l.costs) ≡ l.c) × ((d : ℕ) → d < l.c → looked k.exact (vec_items l.costs) d ≡ start k.model (has l.goal) d)
+abbrev pub invariant-loop-c : goal.invariant-loop-c
+invariant-loop-c g l = let k = g.C.CostModel in (length (vec_items l.costs) ≡ l.c) × ((d : ℕ) → d < l.c → looked k.exact (vec_items l.costs) d ≡ start k.model (has l.goal) d)

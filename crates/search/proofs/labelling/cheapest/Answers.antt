@@ -25,10 +25,10 @@ loop-at-preserved g c =
     let ms = c.args.moves.now in
     let V = looked k.exact cs in
     let good = looked_sized k.model k.exact g.met.C.CostModel.sized cs in
-    let end = c.group-end-next.ensures in (
+    let end = c.group_end-next.ensures in (
       end.inside,
       begins_next (weaken k.laws) V good ms c.requires.ordered _ _ c.loop-at.invariant.1 end,
-      subst (Lowered k.model V ms c.group-end-next.result) (sym c.lower-low.ensures)
+      subst (Lowered k.model V ms c.group_end-next.result) (sym c.lower-low.ensures)
           (lowered_more (weaken k.laws) V good ms c.requires.ordered _ _ c.loop-at.invariant.1 end _ _ c.worst.ensures c.loop-at.invariant.2),
     )
 

@@ -10,14 +10,14 @@ pub cheapest-requires : goal.cheapest-requires
 cheapest-requires g c =
     let k = g.C.CostModel in
     let index = c.args.index.now in
-    let from = c.moves-from.ensures in
+    let from = c.moves_from.ensures in
     record {
       ordered = from.ordered;
-      few = few_open k.exact c.args.costs.now c.args.c (subst (λ n. n ≤ 256) (sym c.requires.sized) (port_of index).conditions_few) c.requires.within (c.is-open.ensures.0 c.if-is-open.true).0 c.requires.few;
+      few = few_open k.exact c.args.costs.now c.args.c (subst (λ n. n ≤ 256) (sym c.requires.sized) (port_of index).conditions_few) c.requires.within (c.is_open.ensures.0 c.if-is_open.true).0 c.requires.few;
     }
 
-pub returns-then-is-open : goal.returns-then-is-open
-returns-then-is-open g c =
+pub returns-then-is_open : goal.returns-then-is_open
+returns-then-is_open g c =
     let k = g.C.CostModel in
-    let open-here = c.is-open.ensures.0 c.if-is-open.true in
-    offered_from k.model (looked k.exact c.args.costs.now) (moves_of c.args.index.now) c.args.c c.moves-from.result.now c.moves-from.ensures (has c.args.keep.now) (shown k.exact c.cheapest.result) open-here.0 open-here.1 c.cheapest.ensures
+    let open-here = c.is_open.ensures.0 c.if-is_open.true in
+    offered_from k.model (looked k.exact c.args.costs.now) (moves_of c.args.index.now) c.args.c c.moves_from.result.now c.moves_from.ensures (has c.args.keep.now) (shown k.exact c.cheapest.result) open-here.0 open-here.1 c.cheapest.ensures

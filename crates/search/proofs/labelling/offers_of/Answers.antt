@@ -11,7 +11,7 @@ use Rattle.search.proofs.labelling.offers_of.Goals as goal
 pub loop-c-preserved : goal.loop-c-preserved
 loop-c-preserved g c =
     let k = g.C.CostModel in
-    let pushed = c.in-ok-push.ensures.items in
+    let pushed = c.in_ok-push.ensures.items in
     let i = c.loop-c.c in (
       ap length pushed ∙ length_push _ _ ∙ ap (λ n. n + 1) c.loop-c.invariant.0,
       pushed_each (λ d x. Offered k.model (moves_of c.args.index.now) (has c.args.keep.now) (looked k.exact c.args.costs.now) d (shown k.exact x)) (vec_items c.loop-c.offers) (vec_items c.push.new.self) c.offer.result None i pushed c.loop-c.invariant.0 c.loop-c.invariant.1 c.offer.ensures,

@@ -5,5 +5,5 @@ use Rattle.index.specs.Indexed.{moves_of}
 use Rattle.search.specs.Steps.{AllOffered}
 use Rattle.search.proofs.labelling.offers_of.Given as goal
 
-abbrev pub invariant_loop_c : goal.invariant-loop-c
-invariant_loop_c g l = let k = g.C.CostModel in (length (vec_items l.offers) ≡ l.c) × AllOffered k.model (moves_of l.index) (has l.keep) l.c (looked k.exact l.costs) (looked k.exact (vec_items l.offers))
+abbrev pub invariant-loop-c : goal.invariant-loop-c
+invariant-loop-c g l = let k = g.C.CostModel in (length (vec_items l.offers) ≡ l.c) × AllOffered k.model (moves_of l.index) (has l.keep) l.c (looked k.exact l.costs) (looked k.exact (vec_items l.offers))

@@ -24,7 +24,7 @@ returns-then-attains g c =
     let V = looked k.exact cs in
     let good = looked_sized k.model k.exact g.met.C.CostModel.sized cs in
     let told : Lowest k.model V ms (k.exact c.args.cost) (Some (at ms c.loop-at.at).operation) =
-    met (weaken k.laws) V good ms c.requires.ordered _ _ c.loop-at.invariant.1 c.group-end-next.ensures _ (c.attains.ensures.0 c.if-attains.true) c.loop-at.invariant.2 in
+    met (weaken k.laws) V good ms c.requires.ordered _ _ c.loop-at.invariant.1 c.group_end-next.ensures _ (c.attains.ensures.0 c.if-attains.true) c.loop-at.invariant.2 in
     search rules
 
 pub loop-at-preserved : goal.loop-at-preserved
@@ -34,7 +34,7 @@ loop-at-preserved g c =
     let ms = c.args.moves.now in
     let V = looked k.exact cs in
     let good = looked_sized k.model k.exact g.met.C.CostModel.sized cs in
-    let end = c.group-end-next.ensures in (
+    let end = c.group_end-next.ensures in (
       end.inside,
       begins_next (weaken k.laws) V good ms c.requires.ordered _ _ c.loop-at.invariant.1 end,
       unmet_more (weaken k.laws) V good ms c.requires.ordered _ _ c.loop-at.invariant.1 end _ (λ w. true≢false (sym (c.attains.ensures.1 w) ∙ c.if-attains.false)) c.loop-at.invariant.2,

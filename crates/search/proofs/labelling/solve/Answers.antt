@@ -12,13 +12,13 @@ use Rattle.search.proofs.Steps.{final_start, few_start, above_start, d_within, f
 use Rattle.search.proofs.Tables.{done_most}
 use Rattle.search.proofs.labelling.solve.Goals as goal
 
-pub offers-of-requires : goal.offers-of-requires
-offers-of-requires g c =
+pub offers_of-requires : goal.offers_of-requires
+offers_of-requires g c =
     let k = g.C.CostModel in
     let index = c.args.index.now in
-    let told = c.in-ok-costs.ensures in
+    let told = c.in_ok-costs.ensures in
     let value = c.deref.ensures.value in
-    let t = vec_items c.in-ok-costs.costs in
+    let t = vec_items c.in_ok-costs.costs in
     let all = c.conditions.ensures in
     let begun : (d : ℕ) → d < count_of index → looked k.exact t d ≡ start k.model (has c.args.goal.now) d = λ d l. told.1 d (subst (λ n. d < n) (sym all) l) in
     record {
@@ -34,11 +34,11 @@ loop-label-init g c =
     let ms = moves_of index in
     let keep = has c.args.keep.now in
     let goal = has c.args.goal.now in
-    let told = c.in-ok-costs.ensures in
-    let offers = c.in-ok-offers.ensures in
+    let told = c.in_ok-costs.ensures in
+    let offers = c.in_ok-offers.ensures in
     let value = c.deref.ensures.value in
-    let t = vec_items c.in-ok-costs.costs in
-    let u = vec_items c.in-ok-offers.offers in
+    let t = vec_items c.in_ok-costs.costs in
+    let u = vec_items c.in_ok-offers.offers in
     let all = c.conditions.ensures in
     let len : length c.deref.result.now ≡ count_of index = ap length value ∙ told.0 ∙ all in
     let begun : (d : ℕ) → d < count_of index → looked k.exact t d ≡ start k.model goal d = λ d l. told.1 d (subst (λ n. d < n) (sym all) l) in
@@ -71,8 +71,8 @@ fix-requires g c =
     let offers = vec_items c.loop-label.offers in
     let seen = c.deref-in-loop-label.ensures.value in
     let low : LeastOf k.model k.exact offers (length offers) (Some b) = subst (λ t. LeastOf k.model k.exact t (length t) (Some b)) seen c.in-Some.ensures in
-    let cv = c.deref-mut.ensures.value in
-    let ov = c.deref-mut-in-Some.ensures.value in
+    let cv = c.deref_mut.ensures.value in
+    let ov = c.deref_mut-in-Some.ensures.value in
     let new = set costs b.condition (Some b.cost) in
     let few = few_next laws k.exact g.met.C.CostModel.sized ms keep goal n within timely costs offers state b low in
     record {
@@ -81,7 +81,7 @@ fix-requires g c =
       few = subst (λ t. Few k.model k.exact (done (set t b.condition (Some b.cost)) - 1) (set t b.condition (Some b.cost))) (sym cv) few;
       within = d_within laws k.exact g.met.C.CostModel.sized ms keep goal n within timely costs offers state b low;
       rest = λ d l apart.
-          subst (λ t. Offered k.model ms keep (looked k.exact (set t b.condition (Some b.cost))) d (looked k.exact (set c.deref-mut-in-Some.result.now b.condition None) d)) (sym cv)
+          subst (λ t. Offered k.model ms keep (looked k.exact (set t b.condition (Some b.cost))) d (looked k.exact (set c.deref_mut-in-Some.result.now b.condition None) d)) (sym cv)
           (subst (λ t. Offered k.model ms keep (looked k.exact new) d (looked k.exact (set t b.condition None) d)) (sym ov)
           (rest_next laws k.exact g.met.C.CostModel.sized ms keep goal n within timely costs offers state b low d l apart));
     }
@@ -106,8 +106,8 @@ step g c =
     let offers = vec_items c.loop-label.offers in
     let seen = c.deref-in-loop-label.ensures.value in
     let low : LeastOf k.model k.exact offers (length offers) (Some b) = subst (λ t. LeastOf k.model k.exact t (length t) (Some b)) seen c.in-Some.ensures in
-    let cv = c.deref-mut.ensures.value in
-    let ov = c.deref-mut-in-Some.ensures.value in
+    let cv = c.deref_mut.ensures.value in
+    let ov = c.deref_mut-in-Some.ensures.value in
     let cl : length c.fix.new.costs ≡ vec_len c.loop-label.costs = c.fix.auto.costs ∙ ap length cv ∙ sym c.loop-label.costs.ok.0 in
     let ol : length c.fix.new.offers ≡ vec_len c.loop-label.offers = c.fix.auto.offers ∙ ap length ov ∙ sym c.loop-label.offers.ok.0 in
     let cr = with_items_is c.loop-label.costs c.fix.new.costs cl in
@@ -134,5 +134,5 @@ returns g c =
     let index = c.args.index.now in
     let ms = moves_of index in
     let offers = vec_items c.loop-label.offers in
-    let none : LeastOf k.model k.exact offers (length offers) None = subst (λ t. LeastOf k.model k.exact t (length t) None) c.deref-in-loop-label.ensures.value (subst (λ r. LeastOf k.model k.exact c.deref-in-loop-label.result.now (length c.deref-in-loop-label.result.now) r) c.in-default.is c.least.ensures) in
+    let none : LeastOf k.model k.exact offers (length offers) None = subst (λ t. LeastOf k.model k.exact t (length t) None) c.deref-in-loop-label.ensures.value (subst (λ r. LeastOf k.model k.exact c.deref-in-loop-label.result.now (length c.deref-in-loop-label.result.now) r) c.in_default.is c.least.ensures) in
     settled (weaken k.laws) k.exact g.met.C.CostModel.sized ms (has c.args.keep.now) (has c.args.goal.now) (count_of index) (index_within index) (index_timely index) (port_of index).conditions_few (vec_items c.loop-label.costs) offers c.loop-label.invariant none

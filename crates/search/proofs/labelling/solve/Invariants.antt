@@ -5,10 +5,10 @@ use Rattle.index.specs.Indexed.{count_of, moves_of}
 use Rattle.search.specs.Steps.{State}
 use Rattle.search.proofs.labelling.solve.Given as goal
 
-abbrev pub invariant_loop_label : goal.invariant-loop-label
-invariant_loop_label g l =
+abbrev pub invariant-loop-label : goal.invariant-loop-label
+invariant-loop-label g l =
     let k = g.C.CostModel in
     State k.model k.exact (moves_of l.index) (has l.keep) (has l.goal) (count_of l.index) (vec_items l.costs) (vec_items l.offers)
 
-abbrev pub decreases_loop_label : goal.decreases-loop-label
-decreases_loop_label g l = count_of l.index - done (vec_items l.costs)
+abbrev pub decreases-loop-label : goal.decreases-loop-label
+decreases-loop-label g l = count_of l.index - done (vec_items l.costs)

@@ -18,7 +18,7 @@ returns-in-None g c =
     let i = c.loop-m.m-index in
     let told : Greatest k.model (looked k.exact cs) ms None =
     missing (weaken k.laws) (looked k.exact cs) (looked_sized k.model k.exact g.met.C.CostModel.sized cs) ms i c.loop-m-test.true
-    (ap (shown k.exact) (sym c.cost-after.ensures ∙ c.in-None.is)) in
+    (ap (shown k.exact) (sym c.cost_after.ensures ∙ c.in-None.is)) in
     search rules
 
 pub loop-m-preserved : goal.loop-m-preserved
@@ -28,7 +28,7 @@ loop-m-preserved g c =
     let cs = c.args.costs.now in
     let i = c.loop-m.m-index in
     let V = looked k.exact cs in
-    let has : get_or cs (at ms i).outcome None ≡ Some c.in-Some.c = sym c.cost-after.ensures ∙ c.in-Some.is in
+    let has : get_or cs (at ms i).outcome None ≡ Some c.in-Some.c = sym c.cost_after.ensures ∙ c.in-Some.is in
     let new : k.exact c.extend.result ≡ topped k.model (k.model.join (at ms i) (k.exact c.in-Some.c)) (shown k.exact c.loop-m.top) = c.extend.ensures (c.requires _ _ (in_get_d no_move ms i c.loop-m-test.true) has) in
     subst (λ x. Topped k.model V ms (i + 1) (Some x)) (sym new)
     (topped_more (weaken k.laws) V (looked_sized k.model k.exact g.met.C.CostModel.sized cs) ms i _ c.loop-m-test.true (ap (shown k.exact) has) _ c.loop-m.invariant)

@@ -3,5 +3,5 @@ use Rattle.costs.specs.Compare.{shown}
 use Rattle.tables.specs.Tables.{looked}
 use Rattle.search.proofs.labelling.worst.Given as goal
 
-abbrev pub invariant_loop_m : goal.invariant-loop-m
-invariant_loop_m g l = let k = g.C.CostModel in Topped k.model (looked k.exact l.costs) l.moves l.m-index (shown k.exact l.top)
+abbrev pub invariant-loop-m : goal.invariant-loop-m
+invariant-loop-m g l = let k = g.C.CostModel in Topped k.model (looked k.exact l.costs) l.moves l.m-index (shown k.exact l.top)

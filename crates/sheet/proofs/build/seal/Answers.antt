@@ -5,8 +5,8 @@ use Rattle.port.specs.Model.{request_model}
 use Rattle.reading.proofs.Limited.{in_map}
 use Rattle.sheet.proofs.build.seal.Goals as goal
 
-pub invariant-of-result : goal.invariant-of-result
-invariant-of-result c =
+pub invariant_of-result : goal.invariant_of-result
+invariant_of-result c =
     let d = c.args.draft in
     let ok = c.requires in
     let conditions = d.conditions.ok.0 in

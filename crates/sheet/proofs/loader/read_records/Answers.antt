@@ -9,8 +9,8 @@ returns-in-Err c = λ fuel le.
     let i = c.loop-reader.invariant.1 fuel le in
     i.2 ∙ records_fault _ _ _ _ _ _ c.loop-reader-test.true i.1 c.in-Err.ensures
 
-pub add-record-requires : goal.add-record-requires
-add-record-requires c = entry_sized _ _ _ _ _ _ c.in-Ok.ensures
+pub add_record-requires : goal.add_record-requires
+add_record-requires c = entry_sized _ _ _ _ _ _ c.in-Ok.ensures
 
 pub loop-reader-smaller : goal.loop-reader-smaller
 loop-reader-smaller c = entry_less _ _ _ _ _ _ c.loop-reader-test.true c.in-Ok.ensures
@@ -21,7 +21,7 @@ loop-reader-preserved c = (
   λ fuel le.
       let i = c.loop-reader.invariant.1 fuel le in
       let m = records_more i.0 c.loop-reader.count _ _ _ _ _ _ c.loop-reader-test.true i.1 c.in-Ok.ensures in
-      (m.0, m.1, i.2 ∙ m.2 ∙ ap (λ x. records m.0 (c.loop-reader.count + 1) x c.read-record.new.reader.place c.read-record.new.reader.rest.now) (sym c.in-ok-add-record.ensures.added)),
+      (m.0, m.1, i.2 ∙ m.2 ∙ ap (λ x. records m.0 (c.loop-reader.count + 1) x c.read_record.new.reader.place c.read_record.new.reader.rest.now) (sym c.in_ok-add_record.ensures.added)),
 )
 
 pub returns : goal.returns

@@ -7,14 +7,14 @@ use Rattle.rounds.specs.Rounds.{domain_in}
 use Rattle.rounds.proofs.Freshness.{part_at, row_fits}
 use Rattle.solver.proofs.policy.choose.Goals as goal
 
-pub slice-bounds-search-end : goal.slice-bounds-search-end
-slice-bounds-search-end g c =
+pub slice_bounds-search-end : goal.slice_bounds-search-end
+slice_bounds-search-end g c =
     let D : Domain = domain_in c.args.index.now in
     let wide : c.conditions-width.result ≡ D.conditions = c.conditions-width.ensures ∙ (port_of c.args.index.now).conditions.ok.0 in
     omega (arith, row_fits c.args.i (length D.tasks) D.conditions c.conditions-width.result (length c.args.keep.now) c.requires.within c.requires.keep.long wide)
 
-pub slice-bounds-search-end-2 : goal.slice-bounds-search-end-2
-slice-bounds-search-end-2 g c =
+pub slice_bounds-search-end-2 : goal.slice_bounds-search-end-2
+slice_bounds-search-end-2 g c =
     let D : Domain = domain_in c.args.index.now in
     let wide : c.conditions-width.result ≡ D.conditions = c.conditions-width.ensures ∙ (port_of c.args.index.now).conditions.ok.0 in
     omega (arith, row_fits c.args.i (length D.tasks) D.conditions c.conditions-width.result (length c.args.goals.now) c.requires.within c.requires.goals.long wide)

@@ -13,15 +13,15 @@ loop-i-init g c =
 pub loop-i-preserved : goal.loop-i-preserved
 loop-i-preserved g c =
     let D : Domain = domain_in c.args.index.now in
-    let r = c.in-ok-row.ensures in
-    chosen_more g.C.CostModel.model g.C.CostModel.exact D (vec_items c.loop-i.choices) (vec_items c.in-ok-row.row)
-    (vec_items c.extend-from-slice.new.self) c.loop-i.i
-    (c.in-ok-extend-from-slice.ensures.items ∙ ap (λ xs. vec_items c.loop-i.choices ++ xs) c.deref.ensures.value)
+    let r = c.in_ok-row.ensures in
+    chosen_more g.C.CostModel.model g.C.CostModel.exact D (vec_items c.loop-i.choices) (vec_items c.in_ok-row.row)
+    (vec_items c.extend_from_slice.new.self) c.loop-i.i
+    (c.in_ok-extend_from_slice.ensures.items ∙ ap (λ xs. vec_items c.loop-i.choices ++ xs) c.deref.ensures.value)
     c.loop-i.invariant r.0 r.1
 
-pub returns-in-err-extend-from-slice : goal.returns-in-err-extend-from-slice
-returns-in-err-extend-from-slice g c =
-    let p = err_from_is_err_and c.from-residual-in-err-extend-from-slice.result c.from-residual-in-err-extend-from-slice.ensures.1 in
+pub returns-in_err-extend_from_slice : goal.returns-in_err-extend_from_slice
+returns-in_err-extend_from_slice g c =
+    let p = err_from_is_err_and c.from_residual-in_err-extend_from_slice.result c.from_residual-in_err-extend_from_slice.ensures.1 in
     rw p.1 tt
 
 pub returns : goal.returns

@@ -11,5 +11,5 @@ returns c =
     ap₂ ◌*◌ c.len.ensures c.len-width.ensures ∙ port_places c.args.port.now in
     let q : c.args.port.now.header.stages * c.len-width.result ≡ pairs_of (domain_of (model_of c.args.port.now)) =
     ap (λ (n : ℕ). c.args.port.now.header.stages * n) c.len-width.ensures ∙ port_pairs c.args.port.now in
-    c.long-enough.ensures
+    c.long_enough.ensures
     ∙ ap₂ (λ (m n : ℕ). leb m c.args.entries && (leb m c.args.costs && leb n c.args.ranks)) p q

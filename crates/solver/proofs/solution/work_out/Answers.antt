@@ -7,9 +7,9 @@ use Rattle.solver.specs.Choices.{Chosen}
 use Rattle.solver.proofs.Solutions.{port_tasks}
 use Rattle.solver.proofs.solution.work_out.Goals as goal
 
-pub choose-all-requires : goal.choose-all-requires
-choose-all-requires g c =
-    let e = c.in-ok-index.ensures in
+pub choose_all-requires : goal.choose_all-requires
+choose_all-requires g c =
+    let e = c.in_ok-index.ensures in
     record {
       requests = c.len.ensures ∙ port_tasks c.args.port.now ∙ ap (λ (p : Port). length (domain_of (model_of p)).tasks) (sym e.index);
       keep = subst (λ (p : Port). KeepRows (domain_of (model_of p)) c.deref.result.now) (sym e.index)
@@ -20,9 +20,9 @@ choose-all-requires g c =
 
 pub returns : goal.returns
 returns g c =
-    let e = c.in-ok-index.ensures in
+    let e = c.in_ok-index.ensures in
     record {
       ranked = e.told.ranked;
-      chosen = subst (λ (p : Port). Chosen g.C.CostModel.model g.C.CostModel.exact (domain_of (model_of p)) (vec_items c.in-ok-choices.choices)) e.index
-          c.in-ok-choices.ensures;
+      chosen = subst (λ (p : Port). Chosen g.C.CostModel.model g.C.CostModel.exact (domain_of (model_of p)) (vec_items c.in_ok-choices.choices)) e.index
+          c.in_ok-choices.ensures;
     }

@@ -10,10 +10,10 @@ loop-i-preserved g c =
     let k = g.C.CostModel.model in
     let e = g.C.CostModel.exact in
     let long : c.loop-i.i < length (map e c.loop-i.costs) = rw (length-map c.loop-i.costs e) (omega arith) in (
-      ap (take (c.loop-i.i + 1)) (map-set e c.loop-i.costs c.loop-i.i c.cost-of.result)
-          ∙ copied_more (exact_of k e) c.args.choices.now (map e c.loop-i.costs) c.loop-i.i (e c.cost-of.result) None c.loop-i-test.true long c.loop-i.invariant.0
-          (c.cost-of.ensures ∙ ap (exact_of k e) (get_or_read _ _ _ c.loop-i-test.true c.index-choices-i.is None)),
-      rest_more c.loop-i.costs c.args.costs.now c.loop-i.i c.cost-of.result c.loop-i.invariant.1,
+      ap (take (c.loop-i.i + 1)) (map-set e c.loop-i.costs c.loop-i.i c.cost_of.result)
+          ∙ copied_more (exact_of k e) c.args.choices.now (map e c.loop-i.costs) c.loop-i.i (e c.cost_of.result) None c.loop-i-test.true long c.loop-i.invariant.0
+          (c.cost_of.ensures ∙ ap (exact_of k e) (get_or_read _ _ _ c.loop-i-test.true c.index-choices-i.is None)),
+      rest_more c.loop-i.costs c.args.costs.now c.loop-i.i c.cost_of.result c.loop-i.invariant.1,
     )
 
 pub returns : goal.returns

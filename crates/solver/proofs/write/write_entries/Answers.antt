@@ -7,9 +7,9 @@ use Rattle.solver.proofs.write.write_entries.Goals as goal
 
 pub loop-i-preserved : goal.loop-i-preserved
 loop-i-preserved g c = (
-  copied_more entry_of c.args.choices.now c.loop-i.entries c.loop-i.i c.entry-of.result None c.loop-i-test.true (omega arith) c.loop-i.invariant.0
-      (c.entry-of.ensures ∙ ap entry_of (get_or_read _ _ _ c.loop-i-test.true c.index-choices-i.is None)),
-  rest_more c.loop-i.entries c.args.entries.now c.loop-i.i c.entry-of.result c.loop-i.invariant.1,
+  copied_more entry_of c.args.choices.now c.loop-i.entries c.loop-i.i c.entry_of.result None c.loop-i-test.true (omega arith) c.loop-i.invariant.0
+      (c.entry_of.ensures ∙ ap entry_of (get_or_read _ _ _ c.loop-i-test.true c.index-choices-i.is None)),
+  rest_more c.loop-i.entries c.args.entries.now c.loop-i.i c.entry_of.result c.loop-i.invariant.1,
 )
 
 pub returns : goal.returns

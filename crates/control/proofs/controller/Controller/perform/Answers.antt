@@ -5,36 +5,36 @@ use Rattle.control.specs.Worlds.{world}
 use Rattle.control.proofs.Done.{still_granted, still_closed, still_refused}
 use Rattle.control.proofs.controller.Controller.perform.Goals as goal
 
-pub returns-in-Ok-put-out : goal.returns-in-Ok-put-out
-returns-in-Ok-put-out g c =
+pub returns-in-Ok-put_out : goal.returns-in-Ok-put_out
+returns-in-Ok-put_out g c =
     let self = c.args.self.now in
-    let last = c.put-out.new.self in
+    let last = c.put_out.new.self in
     let p = self.port.now in
     let ex = g.C.CostModel.exact in
     record {
-      port = c.put-out.ensures.port;
-      policy = c.put-out.ensures.policy;
+      port = c.put_out.ensures.port;
+      policy = c.put_out.ensures.policy;
       home = refl;
       does =
           still_granted ex (world g.C.CostModel.model ex p self.policy) (model_of p).conditions (g.L.Lock.home c.args.lock.now) self.stage last.stage
-          self.out last.out (g.L.Lock.present c.args.lock.now) c.args.command (Ask c.in-Ask.request) c.in-Ask.is c.in-Ok-put-out.quote
-          c.in-Ok-put-out.ensures.did;
+          self.out last.out (g.L.Lock.present c.args.lock.now) c.args.command (Ask c.in-Ask.request) c.in-Ask.is c.in-Ok-put_out.quote
+          c.in-Ok-put_out.ensures.did;
     }
 
-pub returns-in-Err-put-out : goal.returns-in-Err-put-out
-returns-in-Err-put-out g c =
+pub returns-in-Err-put_out : goal.returns-in-Err-put_out
+returns-in-Err-put_out g c =
     let self = c.args.self.now in
-    let last = c.put-out.new.self in
+    let last = c.put_out.new.self in
     let p = self.port.now in
     let ex = g.C.CostModel.exact in
     record {
-      port = c.put-out.ensures.port;
-      policy = c.put-out.ensures.policy;
+      port = c.put_out.ensures.port;
+      policy = c.put_out.ensures.policy;
       home = refl;
       does =
           still_refused ex (world g.C.CostModel.model ex p self.policy) (model_of p).conditions (g.L.Lock.home c.args.lock.now) self.stage last.stage
-          self.out last.out (g.L.Lock.present c.args.lock.now) c.args.command (Ask c.in-Ask.request) c.in-Ask.is c.in-Err-put-out.e
-          c.in-Err-put-out.ensures.did;
+          self.out last.out (g.L.Lock.present c.args.lock.now) c.args.command (Ask c.in-Ask.request) c.in-Ask.is c.in-Err-put_out.e
+          c.in-Err-put_out.ensures.did;
     }
 
 pub returns-in-Ok-finish : goal.returns-in-Ok-finish

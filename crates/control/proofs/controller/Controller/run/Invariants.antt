@@ -5,8 +5,8 @@ use Rattle.control.specs.States.{state}
 use Rattle.control.specs.Worlds.{world}
 use Rattle.control.proofs.controller.Controller.run.Given as goal
 
-abbrev pub invariant_loop_i : goal.invariant-loop-i
-invariant_loop_i g l =
+abbrev pub invariant-loop-i : goal.invariant-loop-i
+invariant-loop-i g l =
     (l.self.port ≡ l.initial.self.port) × (l.self.policy ≡ l.initial.self.policy)
     × (g.L.Lock.home l.lock ≡ g.L.Lock.home l.initial.lock) × (length l.log ≡ length l.commands)
     × Logged g.C.CostModel.exact (world g.C.CostModel.model g.C.CostModel.exact l.initial.self.port.now l.initial.self.policy)

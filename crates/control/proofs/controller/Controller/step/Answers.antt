@@ -13,10 +13,10 @@ returns g c =
     let e = g.C.CostModel.exact in
     let here = state self.stage self.out in
     record {
-      home = c.work-on.ensures.home;
-      does = c.work-on.ensures.does;
+      home = c.work_on.ensures.home;
+      does = c.work_on.ensures.does;
       did = λ own.
           did_own e (world g.C.CostModel.model e p self.policy) (model_of p) p.conditions_rise refl (g.L.Lock.home c.args.lock.now) own
-          (here (g.L.Lock.present c.args.lock.now)) (Step c.args.grant.now.request) (step_answer c.work-on.result)
-          (here (g.L.Lock.present c.work-on.new.lock)) c.work-on.ensures.does;
+          (here (g.L.Lock.present c.args.lock.now)) (Step c.args.grant.now.request) (step_answer c.work_on.result)
+          (here (g.L.Lock.present c.work_on.new.lock)) c.work_on.ensures.does;
     }

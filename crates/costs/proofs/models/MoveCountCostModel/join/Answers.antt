@@ -6,5 +6,5 @@ pub returns : goal.returns
 returns c h =
     let first = ap (λ (xs : List ℕ). get_or xs 0 0) h.same in
     let count = moves_count h.moves in
-    let sum : c.saturating-add-moves.result ≡ c.args.c.moves + 1 = omega arith in
+    let sum : c.saturating_add-moves.result ≡ c.args.c.moves + 1 = omega arith in
     ap {B = List ℕ} (λ n. n ∷ []) sum

@@ -6,19 +6,19 @@ use Rattle.reading.proofs.Steps.{then_got, then_fault, passed, failed, place_her
 use Rattle.reader.proofs.reader.Reader.next_field.Goals as goal
 use Rattle.reader.proofs.reader.Reader.next_field.Goals.{then-present, else-present}
 
-pub returns-in-err-value : goal.returns-in-err-value
+pub returns-in_err-value : goal.returns-in_err-value
 unfolding field
-returns-in-err-value c =
-    let p = err_from_is_err_and c.from-residual.result c.from-residual.ensures.1 in
-    rw (p.1, p.2) (then_fault _ c.in-err-value.ensures)
+returns-in_err-value c =
+    let p = err_from_is_err_and c.from_residual.result c.from_residual.ensures.1 in
+    rw (p.1, p.2) (then_fault _ c.in_err-value.ensures)
 
 pub returns-then-value-limit : goal.returns-then-value-limit
 unfolding field
 returns-then-value-limit c =
     let at : cond c.args.present c.args.self.now.place c.args.map_place ≡ c.if-present.place =
     elim c.if-present.branch [ then-present w ↦ place_here _ _ _ _ w.if-present.true w.place-is | else-present w ↦ place_there _ _ _ _ w.if-present.false w.place-is ] in
-    then_got _ c.in-ok-value.ensures ∙ failed _ _ (le-ltb _ _ (omega arith)) ∙ ap (λ k. fault (Missing k)) at
+    then_got _ c.in_ok-value.ensures ∙ failed _ _ (le-ltb _ _ (omega arith)) ∙ ap (λ k. fault (Missing k)) at
 
 pub returns : goal.returns
 unfolding field
-returns c = then_got _ c.in-ok-value.ensures ∙ passed _ _ (lt-ltb _ _ (omega arith))
+returns c = then_got _ c.in_ok-value.ensures ∙ passed _ _ (lt-ltb _ _ (omega arith))

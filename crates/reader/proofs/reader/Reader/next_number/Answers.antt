@@ -8,18 +8,18 @@ pub returns-then-not-present : goal.returns-then-not-present
 unfolding number
 returns-then-not-present c = rw c.if-not-present.true refl
 
-pub returns-in-err-value : goal.returns-in-err-value
+pub returns-in_err-value : goal.returns-in_err-value
 unfolding number
-returns-in-err-value c =
-    let p = err_from_is_err_and c.from-residual.result c.from-residual.ensures.1 in
-    rw (p.1, p.2, c.if-not-present.false) (then_fault _ c.in-err-value.ensures)
+returns-in_err-value c =
+    let p = err_from_is_err_and c.from_residual.result c.from_residual.ensures.1 in
+    rw (p.1, p.2, c.if-not-present.false) (then_fault _ c.in_err-value.ensures)
 
 pub returns-then-value-eq0 : goal.returns-then-value-eq0
 unfolding number
 returns-then-value-eq0 c =
-    rw c.if-not-present.false (then_got _ c.in-ok-value.ensures ∙ failed _ _ (le-ltb _ _ (omega arith)))
+    rw c.if-not-present.false (then_got _ c.in_ok-value.ensures ∙ failed _ _ (le-ltb _ _ (omega arith)))
 
 pub returns : goal.returns
 unfolding number
 returns c =
-    rw c.if-not-present.false (then_got _ c.in-ok-value.ensures ∙ passed _ _ (lt-ltb _ _ (omega arith)))
+    rw c.if-not-present.false (then_got _ c.in_ok-value.ensures ∙ passed _ _ (lt-ltb _ _ (omega arith)))

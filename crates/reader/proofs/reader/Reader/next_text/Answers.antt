@@ -8,19 +8,19 @@ pub returns-then-not-present : goal.returns-then-not-present
 unfolding text
 returns-then-not-present c = rw c.if-not-present.true refl
 
-pub returns-in-err-text : goal.returns-in-err-text
+pub returns-in_err-text : goal.returns-in_err-text
 unfolding text
-returns-in-err-text c =
-    let p = err_from_is_err_and c.from-residual.result c.from-residual.ensures.1 in
-    rw (p.1, p.2, c.if-not-present.false) (then_fault _ c.in-err-text.ensures.read)
+returns-in_err-text c =
+    let p = err_from_is_err_and c.from_residual.result c.from_residual.ensures.1 in
+    rw (p.1, p.2, c.if-not-present.false) (then_fault _ c.in_err-text.ensures.read)
 
-pub returns-in-err-check-formula : goal.returns-in-err-check-formula
+pub returns-in_err-check_formula : goal.returns-in_err-check_formula
 unfolding text
-returns-in-err-check-formula c =
-    let p = err_from_is_err_and c.from-residual-in-err-check-formula.result c.from-residual-in-err-check-formula.ensures.1 in
-    rw (p.1, p.2, c.if-not-present.false) (then_got _ c.in-ok-text.ensures.read ∙ moved_stuck _ _ _ _ c.in-ok-text.ensures.stands.0 c.in-err-check-formula.ensures _)
+returns-in_err-check_formula c =
+    let p = err_from_is_err_and c.from_residual-in_err-check_formula.result c.from_residual-in_err-check_formula.ensures.1 in
+    rw (p.1, p.2, c.if-not-present.false) (then_got _ c.in_ok-text.ensures.read ∙ moved_stuck _ _ _ _ c.in_ok-text.ensures.stands.0 c.in_err-check_formula.ensures _)
 
 pub returns : goal.returns
 unfolding text
 returns c =
-    rw c.if-not-present.false (then_got _ c.in-ok-text.ensures.read ∙ moved_whole _ _ _ c.in-ok-text.ensures.stands.0 c.in-ok-check-formula.ensures _)
+    rw c.if-not-present.false (then_got _ c.in_ok-text.ensures.read ∙ moved_whole _ _ _ c.in_ok-text.ensures.stands.0 c.in_ok-check_formula.ensures _)

@@ -10,4 +10,4 @@ returns-then-n-eq0 c =
 
 pub returns-else-n-eq0 : goal.returns-else-n-eq0
 returns-else-n-eq0 c =
-    c.is-before.ensures ∙ rises_key _ _ _ _ _ (c.len-n.ensures ∙ c.args.self.now.moves.ok.0) c.if-n-eq0.false c.index.ensures refl
+    c.is_before.ensures ∙ rises_key _ _ _ _ _ (c.len-n.ensures ∙ c.args.self.now.moves.ok.0) c.if-n-eq0.false c.index.ensures refl

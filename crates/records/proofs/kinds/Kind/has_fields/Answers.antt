@@ -3,4 +3,4 @@ use Rattle.records.proofs.Maps.{fields_counted}
 use Rattle.records.proofs.kinds.Kind.has_fields.Goals as goal
 
 pub returns : goal.returns
-returns c = c.is-within.ensures ∙ fields_counted c.args.self c.args.map c.defined.result c.defined.ensures
+returns c = c.is_within.ensures ∙ fields_counted c.args.self c.args.map c.defined.result c.defined.ensures
