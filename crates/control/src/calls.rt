@@ -16,7 +16,7 @@ use locks::Lock;
 impl<'a, C: CostModel> Controller<'a, C> {
     // What a request would cost: the policy's cost for it, where the lock stands.
     pub fn quote<L: Lock>(&self, request: u8, lock: &L) -> Result<C::Cost, Refusal>
-        ensures { Did exact (world model exact self.now.port.now self.now.policy) (at_of (model_of self.now.port.now).conditions (state self.now.stage self.now.out (present lock.now))) (Command.Quote request) (quote_answer result) (at_of (model_of self.now.port.now).conditions (state self.now.stage self.now.out (present lock.now))) }
+        ensures { Did C.exact (world C.model C.exact self.now.port.now self.now.policy) (at_of (model_of self.now.port.now).conditions (state self.now.stage self.now.out (L.present lock.now))) (Command.Quote request) (quote_answer result) (at_of (model_of self.now.port.now).conditions (state self.now.stage self.now.out (L.present lock.now))) }
     {
         match self.rule(Command::Quote(request), lock.marks()) {
             Ok(Ruling::Tell(quote)) => Ok(quote),
@@ -29,7 +29,7 @@ impl<'a, C: CostModel> Controller<'a, C> {
     fn put_out<L: Lock>(&mut self, request: u8, lock: &L) -> Result<C::Cost, Refusal>
         ensures port { self.new.port ≡ self.old.port }
         ensures policy { self.new.policy ≡ self.old.policy }
-        ensures did { Did exact (world model exact self.old.port.now self.old.policy) (at_of (model_of self.old.port.now).conditions (state self.old.stage self.old.out (present lock.now))) (Command.Ask request) (grant_answer result) (at_of (model_of self.old.port.now).conditions (state self.new.stage self.new.out (present lock.now))) }
+        ensures did { Did C.exact (world C.model C.exact self.old.port.now self.old.policy) (at_of (model_of self.old.port.now).conditions (state self.old.stage self.old.out (L.present lock.now))) (Command.Ask request) (grant_answer result) (at_of (model_of self.old.port.now).conditions (state self.new.stage self.new.out (L.present lock.now))) }
     {
         match self.rule(Command::Ask(request), lock.marks()) {
             Ok(Ruling::Grant(quote)) => {
@@ -45,7 +45,7 @@ impl<'a, C: CostModel> Controller<'a, C> {
     pub fn ask<L: Lock>(&mut self, request: u8, lock: &L) -> Result<Grant<C::Cost>, Refusal>
         ensures port { self.new.port ≡ self.old.port }
         ensures policy { self.new.policy ≡ self.old.policy }
-        ensures did { Did exact (world model exact self.old.port.now self.old.policy) (at_of (model_of self.old.port.now).conditions (state self.old.stage self.old.out (present lock.now))) (Command.Ask request) (ask_answer result) (at_of (model_of self.old.port.now).conditions (state self.new.stage self.new.out (present lock.now))) }
+        ensures did { Did C.exact (world C.model C.exact self.old.port.now self.old.policy) (at_of (model_of self.old.port.now).conditions (state self.old.stage self.old.out (L.present lock.now))) (Command.Ask request) (ask_answer result) (at_of (model_of self.old.port.now).conditions (state self.new.stage self.new.out (L.present lock.now))) }
         ensures granted { IfOk result (λ g. g.request ≡ request) }
     {
         match self.put_out(request, lock) {
@@ -56,7 +56,7 @@ impl<'a, C: CostModel> Controller<'a, C> {
 
     // The operation to work next.
     fn next_operation(&self, request: u8, marks: u16) -> Result<u8, Refusal>
-        ensures { Ruled exact (world model exact self.now.port.now self.now.policy) (at_of (model_of self.now.port.now).conditions (state self.now.stage self.now.out marks)) (Command.Step request) (work_ruling result) }
+        ensures { Ruled C.exact (world C.model C.exact self.now.port.now self.now.policy) (at_of (model_of self.now.port.now).conditions (state self.now.stage self.now.out marks)) (Command.Step request) (work_ruling result) }
     {
         match self.rule(Command::Step(request), marks) {
             Ok(Ruling::Work(operation)) => Ok(operation),
@@ -67,8 +67,8 @@ impl<'a, C: CostModel> Controller<'a, C> {
 
     // Works the policy's operation for a request once.
     fn work_on<L: Lock>(&self, request: u8, lock: &mut L) -> Result<u8, Refusal>
-        ensures home { home lock.new ≡ home lock.old }
-        ensures does { Does exact (world model exact self.now.port.now self.now.policy) (model_of self.now.port.now).conditions (home lock.old) (state self.now.stage self.now.out (present lock.old)) (Command.Step request) (step_answer result) (state self.now.stage self.now.out (present lock.new)) }
+        ensures home { L.home lock.new ≡ L.home lock.old }
+        ensures does { Does C.exact (world C.model C.exact self.now.port.now self.now.policy) (model_of self.now.port.now).conditions (L.home lock.old) (state self.now.stage self.now.out (L.present lock.old)) (Command.Step request) (step_answer result) (state self.now.stage self.now.out (L.present lock.new)) }
     {
         let operation = match self.next_operation(request, lock.marks()) {
             Ok(operation) => operation,
@@ -85,9 +85,9 @@ impl<'a, C: CostModel> Controller<'a, C> {
 
     // Works the policy's operation for the grant's request once, and answers it.
     pub fn step<L: Lock>(&self, grant: &Grant<C::Cost>, lock: &mut L) -> Result<u8, Refusal>
-        ensures home { home lock.new ≡ home lock.old }
-        ensures does { Does exact (world model exact self.now.port.now self.now.policy) (model_of self.now.port.now).conditions (home lock.old) (state self.now.stage self.now.out (present lock.old)) (Command.Step grant.now.request) (step_answer result) (state self.now.stage self.now.out (present lock.new)) }
-        ensures did { home lock.old ≡ model_of self.now.port.now → Did exact (world model exact self.now.port.now self.now.policy) (at_of (model_of self.now.port.now).conditions (state self.now.stage self.now.out (present lock.old))) (Command.Step grant.now.request) (step_answer result) (at_of (model_of self.now.port.now).conditions (state self.now.stage self.now.out (present lock.new))) }
+        ensures home { L.home lock.new ≡ L.home lock.old }
+        ensures does { Does C.exact (world C.model C.exact self.now.port.now self.now.policy) (model_of self.now.port.now).conditions (L.home lock.old) (state self.now.stage self.now.out (L.present lock.old)) (Command.Step grant.now.request) (step_answer result) (state self.now.stage self.now.out (L.present lock.new)) }
+        ensures did { L.home lock.old ≡ model_of self.now.port.now → Did C.exact (world C.model C.exact self.now.port.now self.now.policy) (at_of (model_of self.now.port.now).conditions (state self.now.stage self.now.out (L.present lock.old))) (Command.Step grant.now.request) (step_answer result) (at_of (model_of self.now.port.now).conditions (state self.now.stage self.now.out (L.present lock.new))) }
     {
         self.work_on(grant.request, lock)
     }
@@ -96,7 +96,7 @@ impl<'a, C: CostModel> Controller<'a, C> {
     fn finish<L: Lock>(&mut self, request: u8, lock: &L) -> Result<u8, Refusal>
         ensures port { self.new.port ≡ self.old.port }
         ensures policy { self.new.policy ≡ self.old.policy }
-        ensures did { Did exact (world model exact self.old.port.now self.old.policy) (at_of (model_of self.old.port.now).conditions (state self.old.stage self.old.out (present lock.now))) (Command.Close request) (finish_answer result) (at_of (model_of self.old.port.now).conditions (state self.new.stage self.new.out (present lock.now))) }
+        ensures did { Did C.exact (world C.model C.exact self.old.port.now self.old.policy) (at_of (model_of self.old.port.now).conditions (state self.old.stage self.old.out (L.present lock.now))) (Command.Close request) (finish_answer result) (at_of (model_of self.old.port.now).conditions (state self.new.stage self.new.out (L.present lock.now))) }
     {
         match self.rule(Command::Close(request), lock.marks()) {
             Ok(Ruling::Finish(stage)) => {
@@ -117,7 +117,7 @@ impl<'a, C: CostModel> Controller<'a, C> {
     ) -> Result<u8, (Refusal, Grant<C::Cost>)>
         ensures port { self.new.port ≡ self.old.port }
         ensures policy { self.new.policy ≡ self.old.policy }
-        ensures did { Did exact (world model exact self.old.port.now self.old.policy) (at_of (model_of self.old.port.now).conditions (state self.old.stage self.old.out (present lock.now))) (Command.Close grant.request) (close_answer result) (at_of (model_of self.old.port.now).conditions (state self.new.stage self.new.out (present lock.now))) }
+        ensures did { Did C.exact (world C.model C.exact self.old.port.now self.old.policy) (at_of (model_of self.old.port.now).conditions (state self.old.stage self.old.out (L.present lock.now))) (Command.Close grant.request) (close_answer result) (at_of (model_of self.old.port.now).conditions (state self.new.stage self.new.out (L.present lock.now))) }
         ensures back { IfErr result (λ p. p.1 ≡ grant) }
     {
         match self.finish(grant.request, lock) {
@@ -144,8 +144,8 @@ impl<'a, C: CostModel> Controller<'a, C> {
     pub(crate) fn perform<L: Lock>(&mut self, command: Command, lock: &mut L) -> Answer<C::Cost>
         ensures port { self.new.port ≡ self.old.port }
         ensures policy { self.new.policy ≡ self.old.policy }
-        ensures home { home lock.new ≡ home lock.old }
-        ensures does { Does exact (world model exact self.old.port.now self.old.policy) (model_of self.old.port.now).conditions (home lock.old) (state self.old.stage self.old.out (present lock.old)) command result (state self.new.stage self.new.out (present lock.new)) }
+        ensures home { L.home lock.new ≡ L.home lock.old }
+        ensures does { Does C.exact (world C.model C.exact self.old.port.now self.old.policy) (model_of self.old.port.now).conditions (L.home lock.old) (state self.old.stage self.old.out (L.present lock.old)) command result (state self.new.stage self.new.out (L.present lock.new)) }
     {
         match command {
             Command::Quote(request) => match self.quote(request, lock) {
@@ -170,8 +170,8 @@ impl<'a, C: CostModel> Controller<'a, C> {
 
 // Works the lock with an operation, and tells whether it accepted.
 fn operate<L: Lock>(lock: &mut L, operation: u8) -> bool
-    ensures kept { home lock.new ≡ home lock.old }
-    ensures worked { LockWorked (home lock.old) (present lock.old) operation result (present lock.new) }
+    ensures kept { L.home lock.new ≡ L.home lock.old }
+    ensures worked { LockWorked (L.home lock.old) (L.present lock.old) operation result (L.present lock.new) }
 {
     lock.work(operation)
 }

@@ -28,7 +28,7 @@ pub struct Controller<'a, C: CostModel> {
 impl<'a, C: CostModel> Controller<'a, C> {
     // The condition that the lock stands in, where the request is one of this stage.
     fn spot(&self, request: u8, marks: u16) -> Result<u8, Refusal>
-        ensures { Spotted (world model exact self.now.port.now self.now.policy) self.now.stage (place_in self.now.port.now marks) request result }
+        ensures { Spotted (world C.model C.exact self.now.port.now self.now.policy) self.now.stage (place_in self.now.port.now marks) request result }
     {
         if !offers(self.port, self.stage, request) {
             return Err(Refusal::NotOffered);
@@ -40,20 +40,20 @@ impl<'a, C: CostModel> Controller<'a, C> {
     }
 
     fn entry(&self, request: u8, condition: u8) -> Entry
-        ensures { result ≡ (world model exact self.now.port.now self.now.policy).entry request condition }
+        ensures { result ≡ (world C.model C.exact self.now.port.now self.now.policy).entry request condition }
     {
         entry_in(self.policy.entries, place(self.port, request, condition))
     }
 
     fn cost(&self, request: u8, condition: u8) -> C::Cost
-        ensures { exact result ≡ (world model exact self.now.port.now self.now.policy).cost request condition }
+        ensures { C.exact result ≡ (world C.model C.exact self.now.port.now self.now.policy).cost request condition }
     {
         cost_in::<C>(self.policy.costs, place(self.port, request, condition))
     }
 
     // What a request would cost.
     fn rule_quote(&self, request: u8, marks: u16) -> Result<C::Cost, Refusal>
-        ensures { Found (quote_rules (world model exact self.now.port.now self.now.policy) self.now.stage (place_in self.now.port.now marks) request) (λ x. exact x ≡ cost_at (world model exact self.now.port.now self.now.policy) request (place_in self.now.port.now marks)) result }
+        ensures { Found (quote_rules (world C.model C.exact self.now.port.now self.now.policy) self.now.stage (place_in self.now.port.now marks) request) (λ x. C.exact x ≡ cost_at (world C.model C.exact self.now.port.now self.now.policy) request (place_in self.now.port.now marks)) result }
     {
         let c = match self.spot(request, marks) {
             Ok(c) => c,
@@ -70,7 +70,7 @@ impl<'a, C: CostModel> Controller<'a, C> {
 
     // The quote of a grant.
     fn rule_ask(&self, request: u8, marks: u16) -> Result<C::Cost, Refusal>
-        ensures { Found (ask_rules (world model exact self.now.port.now self.now.policy) self.now.stage (place_in self.now.port.now marks) request) (λ x. exact x ≡ cost_at (world model exact self.now.port.now self.now.policy) request (place_in self.now.port.now marks)) result }
+        ensures { Found (ask_rules (world C.model C.exact self.now.port.now self.now.policy) self.now.stage (place_in self.now.port.now marks) request) (λ x. C.exact x ≡ cost_at (world C.model C.exact self.now.port.now self.now.policy) request (place_in self.now.port.now marks)) result }
     {
         let c = match self.spot(request, marks) {
             Ok(c) => c,
@@ -93,7 +93,7 @@ impl<'a, C: CostModel> Controller<'a, C> {
 
     // The operation to work next.
     fn rule_step(&self, request: u8, marks: u16) -> Result<u8, Refusal>
-        ensures { Found (step_rules (world model exact self.now.port.now self.now.policy) self.now.stage (place_in self.now.port.now marks) request) (Next (world model exact self.now.port.now self.now.policy) (place_in self.now.port.now marks) request) result }
+        ensures { Found (step_rules (world C.model C.exact self.now.port.now self.now.policy) self.now.stage (place_in self.now.port.now marks) request) (Next (world C.model C.exact self.now.port.now self.now.policy) (place_in self.now.port.now marks) request) result }
     {
         let c = match self.spot(request, marks) {
             Ok(c) => c,
@@ -116,7 +116,7 @@ impl<'a, C: CostModel> Controller<'a, C> {
 
     // The stage to go on to.
     fn rule_close(&self, request: u8, marks: u16) -> Result<u8, Refusal>
-        ensures { Found (close_rules (world model exact self.now.port.now self.now.policy) self.now.stage (place_in self.now.port.now marks) request) (Target (world model exact self.now.port.now self.now.policy) request) result }
+        ensures { Found (close_rules (world C.model C.exact self.now.port.now self.now.policy) self.now.stage (place_in self.now.port.now marks) request) (Target (world C.model C.exact self.now.port.now self.now.policy) request) result }
     {
         let c = match self.spot(request, marks) {
             Ok(c) => c,
@@ -133,7 +133,7 @@ impl<'a, C: CostModel> Controller<'a, C> {
 
     // What a command comes to where the lock has these marks. It depends on whether a request is out and on the command together.
     pub(crate) fn rule(&self, command: Command, marks: u16) -> Result<Ruling<C::Cost>, Refusal>
-        ensures { Ruled exact (world model exact self.now.port.now self.now.policy) (at_of (model_of self.now.port.now).conditions (state self.now.stage self.now.out marks)) command result }
+        ensures { Ruled C.exact (world C.model C.exact self.now.port.now self.now.policy) (at_of (model_of self.now.port.now).conditions (state self.now.stage self.now.out marks)) command result }
     {
         match (self.out, command) {
             (_, Command::Quote(q)) => match self.rule_quote(q, marks) {

@@ -28,9 +28,9 @@ impl<'a, C: CostModel> Controller<'a, C> {
         policy: Policy<'a, C::Cost>,
         lock: &L,
     ) -> Result<Controller<'a, C>, Refusal>
-        ensures opened { MatchResult result (λ k. (k.port ≡ port.entry) × (k.policy ≡ policy.entry) × (k.stage ≡ port.now.header.stage) × (k.out ≡ None) × (refusal (opening_rules model exact port.now policy.entry (present lock.now)) ≡ None)) (λ e. refusal (opening_rules model exact port.now policy.entry (present lock.now)) ≡ Some (refusal_number e)) }
-        ensures promised { IfOk result (λ k. Solved (world model exact port.now policy.entry) → Promised (world model exact port.now policy.entry) (at_of (model_of port.now).conditions (state k.stage k.out (present lock.now)))) }
-        ensures opening { Solved (world model exact port.now policy.entry) → (c : ℕ) → place_in port.now (present lock.now) ≡ Some c → Opening (world model exact port.now policy.entry) port.now.header.stage c }
+        ensures opened { MatchResult result (λ k. (k.port ≡ port.entry) × (k.policy ≡ policy.entry) × (k.stage ≡ port.now.header.stage) × (k.out ≡ None) × (refusal (opening_rules C.model C.exact port.now policy.entry (L.present lock.now)) ≡ None)) (λ e. refusal (opening_rules C.model C.exact port.now policy.entry (L.present lock.now)) ≡ Some (refusal_number e)) }
+        ensures promised { IfOk result (λ k. Solved (world C.model C.exact port.now policy.entry) → Promised (world C.model C.exact port.now policy.entry) (at_of (model_of port.now).conditions (state k.stage k.out (L.present lock.now)))) }
+        ensures opening { Solved (world C.model C.exact port.now policy.entry) → (c : ℕ) → place_in port.now (L.present lock.now) ≡ Some c → Opening (world C.model C.exact port.now policy.entry) port.now.header.stage c }
     {
         if !has_tables::<C>(port, policy) {
             return Err(Refusal::Short);

@@ -24,7 +24,7 @@ pub(crate) fn entry_in(entries: &[Entry], i: usize) -> Entry
 }
 
 pub(crate) fn cost_in<C: CostModel>(costs: &[C::Cost], i: usize) -> C::Cost
-    ensures { exact result ≡ slice_index_or (map exact costs.now) i model.zero }
+    ensures { C.exact result ≡ slice_index_or (map C.exact costs.now) i C.model.zero }
 {
     if i < costs.len() { costs[i] } else { C::zero() }
 }

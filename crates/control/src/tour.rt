@@ -40,8 +40,8 @@ impl<'a, C: CostModel> Controller<'a, C> {
     // Carries out commands, one after another, and logs the answer to each.
     fn run<L: Lock>(&mut self, commands: &[Command], lock: &mut L, log: &mut [Answer<C::Cost>])
         requires { length log.old ≡ length commands.now }
-        ensures home { home lock.new ≡ home lock.old }
-        ensures logged { Logged exact (world model exact self.old.port.now self.old.policy) (model_of self.old.port.now).conditions (home lock.old) (state self.old.stage self.old.out (present lock.old)) commands.now log.new (state self.new.stage self.new.out (present lock.new)) }
+        ensures home { L.home lock.new ≡ L.home lock.old }
+        ensures logged { Logged C.exact (world C.model C.exact self.old.port.now self.old.policy) (model_of self.old.port.now).conditions (L.home lock.old) (state self.old.stage self.old.out (L.present lock.old)) commands.now log.new (state self.new.stage self.new.out (L.present lock.new)) }
     {
         for i in 0..commands.len() {
             note(log, i, self.perform(commands[i], lock));
@@ -66,8 +66,8 @@ fn take_out<'a, C: CostModel, L: Lock>(
     log: &mut [Answer<C::Cost>],
 ) -> Result<(), Refusal>
     requires { length log.old ≡ length commands.now }
-    ensures home { home lock.new ≡ home lock.old }
-    ensures toured { MatchResult result (λ _. Toured model exact port.now policy.entry (home lock.old) (present lock.old) commands.now log.new (present lock.new)) (λ e. Turned model exact port.now policy.entry (present lock.old) (present lock.new) e) }
+    ensures home { L.home lock.new ≡ L.home lock.old }
+    ensures toured { MatchResult result (λ _. Toured C.model C.exact port.now policy.entry (L.home lock.old) (L.present lock.old) commands.now log.new (L.present lock.new)) (λ e. Turned C.model C.exact port.now policy.entry (L.present lock.old) (L.present lock.new) e) }
 {
     let mut controller = match Controller::<C>::open(port, policy, lock) {
         Ok(controller) => controller,
@@ -96,7 +96,7 @@ fn solve_into<C: CostModel>(
     ranks: &mut [u16],
 ) -> Result<(), AllocError>
     requires { enough (domain_of (model_of port.now)) entries.old costs.old ranks.old ≡ true }
-    ensures { OnOk result (Solved (world_of (domain_of (model_of port.now)) model exact entries.new costs.new ranks.new)) }
+    ensures { OnOk result (Solved (world_of (domain_of (model_of port.now)) C.model C.exact entries.new costs.new ranks.new)) }
 {
     match solve::<C>(heap, port, entries, costs, ranks) {
         Ok(_) => Ok(()),
@@ -107,7 +107,7 @@ fn solve_into<C: CostModel>(
 
 // Solves a port into tables of its own.
 fn solved_tables<C: CostModel>(heap: Global, port: &Port) -> Result<Tables<C::Cost>, AllocError>
-    ensures { IfOk result (λ t. Stocked model exact port.now t.entries.items t.costs.items t.ranks.items) }
+    ensures { IfOk result (λ t. Stocked C.model C.exact port.now t.entries.items t.costs.items t.ranks.items) }
 {
     let width = port.conditions.len();
     let places = port.requests.len() * width;
@@ -130,8 +130,8 @@ pub fn outing<C: CostModel, L: Lock>(
     lock: &mut L,
     commands: &[Command],
 ) -> Result<Vec<Answer<C::Cost>>, OutingError>
-    ensures home { home lock.new ≡ home lock.old }
-    ensures told { MatchResult result (λ log. Told model exact (model_of port.now) (home lock.old) (present lock.old) commands.now (present lock.new) log.items) (λ e. Failed model (model_of port.now) (present lock.old) (present lock.new) e) }
+    ensures home { L.home lock.new ≡ L.home lock.old }
+    ensures told { MatchResult result (λ log. Told C.model C.exact (model_of port.now) (L.home lock.old) (L.present lock.old) commands.now (L.present lock.new) log.items) (λ e. Failed C.model (model_of port.now) (L.present lock.old) (L.present lock.new) e) }
 {
     let tables = solved_tables::<C>(heap, port)?;
     let mut log = filled(heap, Answer::Refused(Refusal::Short), commands.len())?;

@@ -8,7 +8,7 @@ use port::Move;
 
 // The greater of a cost and the top so far, where there is one.
 fn higher<C: CostModel>(a: C::Cost, top: Option<C::Cost>) -> C::Cost
-    ensures { exact result ≡ topped model (exact a) (shown exact top) }
+    ensures { C.exact result ≡ topped C.model (C.exact a) (shown C.exact top) }
 {
     match top {
         Some(b) => if C::less(a, b) { b } else { a },
@@ -18,7 +18,7 @@ fn higher<C: CostModel>(a: C::Cost, top: Option<C::Cost>) -> C::Cost
 
 // The less of the two costs that are there.
 pub fn lower<C: CostModel>(x: Option<C::Cost>, y: Option<C::Cost>) -> Option<C::Cost>
-    ensures { shown exact result ≡ either model (shown exact x) (shown exact y) }
+    ensures { shown C.exact result ≡ either C.model (shown C.exact x) (shown C.exact y) }
 {
     match (x, y) {
         (Some(a), Some(b)) => Some(if C::less(b, a) { b } else { a }),
@@ -29,7 +29,7 @@ pub fn lower<C: CostModel>(x: Option<C::Cost>, y: Option<C::Cost>) -> Option<C::
 
 // Whether there is a cost `x`, and `y` is none or is above it.
 pub fn under<C: CostModel>(x: Option<C::Cost>, y: Option<C::Cost>) -> bool
-    ensures { result ≡ under_of model (shown exact x) (shown exact y) }
+    ensures { result ≡ under_of C.model (shown C.exact x) (shown C.exact y) }
 {
     match (x, y) {
         (Some(a), Some(b)) => C::less(a, b),
@@ -40,14 +40,14 @@ pub fn under<C: CostModel>(x: Option<C::Cost>, y: Option<C::Cost>) -> bool
 
 // Whether two costs are one.
 fn same<C: CostModel>(a: C::Cost, b: C::Cost) -> bool
-    ensures { Decides result (exact a ≡ exact b) }
+    ensures { Decides result (C.exact a ≡ C.exact b) }
 {
     !C::less(a, b) && !C::less(b, a)
 }
 
 // Whether there is a cost, and it is `b`.
 pub fn comes_to<C: CostModel>(x: Option<C::Cost>, b: C::Cost) -> bool
-    ensures { Decides result (shown exact x ≡ Some (exact b)) }
+    ensures { Decides result (shown C.exact x ≡ Some (C.exact b)) }
 {
     match x {
         Some(a) => same::<C>(a, b),
@@ -57,7 +57,7 @@ pub fn comes_to<C: CostModel>(x: Option<C::Cost>, b: C::Cost) -> bool
 
 // The greater of a move joined onto a cost and the top so far.
 pub fn extend<C: CostModel>(m: &Move, c: C::Cost, top: Option<C::Cost>) -> C::Cost
-    ensures { Reached model 254 (exact c) → exact result ≡ topped model (model.join m.now (exact c)) (shown exact top) }
+    ensures { Reached C.model 254 (C.exact c) → C.exact result ≡ topped C.model (C.model.join m.now (C.exact c)) (shown C.exact top) }
 {
     higher::<C>(C::join(m, c), top)
 }

@@ -26,9 +26,9 @@ pub trait CostModel: Named {
     fn zero() -> Self::Cost
         ensures { exact result ≡ model.zero };
 
-    // The cost of a move and then of what follows it, where they are no more than 255 moves in all.
+    // The cost of a move and then of what follows it, where that is no more than 255 moves.
     fn join(m: &Move, c: Self::Cost) -> Self::Cost
-        ensures { Reached model 254 (exact c) → exact result ≡ model.join m.now (exact c) };
+        ensures { Reached model 255 (exact c) → exact result ≡ model.join m.now (exact c) };
 
     fn less(a: Self::Cost, b: Self::Cost) -> bool
         ensures { result ≡ not (model.within (exact b) (exact a)) };

@@ -17,9 +17,9 @@ pub struct Time {
     pub moves: u32,
 }
 
-// Minutes added to a sum: exact where that is one of at most 254 moves. 255 of the longest moves come to 16,711,425 minutes.
+// Minutes added to a sum: exact where that is one of at most 255 moves, which come to at most 16,711,425 minutes.
 fn add_minutes(sum: u32, minutes: u16) -> u32
-    ensures { sum ≤ 16645890 → result ≡ sum + minutes }
+    ensures { sum ≤ 16711425 → result ≡ sum + minutes }
 {
     sum.saturating_add(minutes as u32)
 }

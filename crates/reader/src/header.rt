@@ -24,7 +24,7 @@ fn is_opening(bytes: &[u8]) -> bool
     requires { length bytes.now ≡ 4 }
     ensures { result ≡ same bytes.now opening_bytes }
 {
-    bytes == &OPENING
+    bytes == OPENING.as_slice()
 }
 
 // Whether a count is from 1 to `most`.

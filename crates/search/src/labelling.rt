@@ -20,8 +20,8 @@ use tables::{Label, all_below, cost_after, cost_at, least};
 
 // The greatest of the moves, each joined onto what its outcome costs, where there is one and each outcome has a cost.
 fn worst<C: CostModel>(moves: &[Move], costs: &[Option<C::Cost>]) -> Option<C::Cost>
-    requires { FewAfter model exact 254 costs.now moves.now }
-    ensures { Greatest model (looked exact costs.now) moves.now (shown exact result) }
+    requires { FewAfter C.model C.exact 254 costs.now moves.now }
+    ensures { Greatest C.model (looked C.exact costs.now) moves.now (shown C.exact result) }
 {
     let mut top = None;
     for m in moves {
@@ -35,8 +35,8 @@ fn worst<C: CostModel>(moves: &[Move], costs: &[Option<C::Cost>]) -> Option<C::C
 
 // Whether the greatest of the moves, each joined onto what its outcome costs, is `cost`. Nothing is joined unless each outcome costs less.
 fn attains<C: CostModel>(moves: &[Move], costs: &[Option<C::Cost>], cost: C::Cost) -> bool
-    requires { FewBelow model exact 254 costs.now (exact cost) }
-    ensures { Decides result (Worst model (After (looked exact costs.now)) (λ m. In m moves.now) (exact cost)) }
+    requires { FewBelow C.model C.exact 254 costs.now (C.exact cost) }
+    ensures { Decides result (Worst C.model (After (looked C.exact costs.now)) (λ m. In m moves.now) (C.exact cost)) }
 {
     all_below::<C>(moves, costs, cost) && comes_to::<C>(worst::<C>(moves, costs), cost)
 }
@@ -58,8 +58,8 @@ fn group_end(moves: &[Move], at: usize) -> usize
 // The least that an operation comes to, of moves in order of operation.
 fn cheapest<C: CostModel>(moves: &[Move], costs: &[Option<C::Cost>]) -> Option<C::Cost>
     requires ordered { Ordered moves.now }
-    requires few { Few model exact 254 costs.now }
-    ensures { Cheapest model (looked exact costs.now) (By moves.now) (shown exact result) }
+    requires few { Few C.model C.exact 254 costs.now }
+    ensures { Cheapest C.model (looked C.exact costs.now) (By moves.now) (shown C.exact result) }
 {
     let mut low = None;
     let mut at = 0;
@@ -74,8 +74,8 @@ fn cheapest<C: CostModel>(moves: &[Move], costs: &[Option<C::Cost>]) -> Option<C
 // The lowest operation that comes to `cost`, of moves in order of operation.
 fn operation<C: CostModel>(moves: &[Move], costs: &[Option<C::Cost>], cost: C::Cost) -> Option<u8>
     requires ordered { Ordered moves.now }
-    requires few { FewBelow model exact 254 costs.now (exact cost) }
-    ensures { Lowest model (looked exact costs.now) moves.now (exact cost) result }
+    requires few { FewBelow C.model C.exact 254 costs.now (C.exact cost) }
+    ensures { Lowest C.model (looked C.exact costs.now) moves.now (C.exact cost) result }
 {
     let mut at = 0;
     while at < moves.len() {
@@ -97,7 +97,7 @@ fn flag_at(flags: &[bool], c: usize) -> bool
 
 // Whether `c` has no cost yet and may be worked in.
 fn is_open<C: CostModel>(keep: &[bool], costs: &[Option<C::Cost>], c: usize) -> bool
-    ensures { Decides result ((looked exact costs.now c ≡ None) × (has keep.now c ≡ true)) }
+    ensures { Decides result ((looked C.exact costs.now c ≡ None) × (has keep.now c ≡ true)) }
 {
     match cost_at(costs, c) {
         Some(_) => false,
@@ -113,9 +113,9 @@ fn offer<C: CostModel>(
     c: usize,
 ) -> Option<C::Cost>
     requires sized { length costs.now ≡ count_of index.now }
-    requires few { Few model exact (done costs.now - 1) costs.now }
+    requires few { Few C.model C.exact (done costs.now - 1) costs.now }
     requires within { c < length costs.now }
-    ensures { Offered model (moves_of index.now) (has keep.now) (looked exact costs.now) c (shown exact result) }
+    ensures { Offered C.model (moves_of index.now) (has keep.now) (looked C.exact costs.now) c (shown C.exact result) }
 {
     if is_open::<C>(keep, costs, c) {
         cheapest::<C>(index.moves_from(c), costs)
@@ -130,7 +130,7 @@ fn begin<C: CostModel>(
     conditions: usize,
     goal: &[bool],
 ) -> Result<Vec<Option<C::Cost>>, AllocError>
-    ensures { IfOk result (λ v. (length v.items ≡ conditions) × ((c : ℕ) → c < conditions → looked exact v.items c ≡ start model (has goal.now) c)) }
+    ensures { IfOk result (λ v. (length v.items ≡ conditions) × ((c : ℕ) → c < conditions → looked C.exact v.items c ≡ start C.model (has goal.now) c)) }
 {
     let mut costs = Vec::new(heap);
     for c in 0..conditions {
@@ -151,8 +151,8 @@ fn offers_of<C: CostModel>(
     costs: &[Option<C::Cost>],
 ) -> Result<Vec<Option<C::Cost>>, AllocError>
     requires sized { length costs.now ≡ count_of index.now }
-    requires few { Few model exact (done costs.now - 1) costs.now }
-    ensures { IfOk result (λ v. (length v.items ≡ length costs.now) × AllOffered model (moves_of index.now) (has keep.now) (length costs.now) (looked exact costs.now) (looked exact v.items)) }
+    requires few { Few C.model C.exact (done costs.now - 1) costs.now }
+    ensures { IfOk result (λ v. (length v.items ≡ length costs.now) × AllOffered C.model (moves_of index.now) (has keep.now) (length costs.now) (looked C.exact costs.now) (looked C.exact v.items)) }
 {
     let mut offers = Vec::new(heap);
     for c in 0..costs.len() {
@@ -171,10 +171,10 @@ fn renew<C: CostModel>(
 )
     requires sized { length costs.now ≡ count_of index.now }
     requires same { length offers.old ≡ count_of index.now }
-    requires few { Few model exact (done costs.now - 1) costs.now }
+    requires few { Few C.model C.exact (done costs.now - 1) costs.now }
     requires within { d < count_of index.now }
-    requires rest { (c : ℕ) → c < count_of index.now → Apart (moves_of index.now) c d → Offered model (moves_of index.now) (has keep.now) (looked exact costs.now) c (looked exact offers.old c) }
-    ensures { AllOffered model (moves_of index.now) (has keep.now) (count_of index.now) (looked exact costs.now) (looked exact offers.new) }
+    requires rest { (c : ℕ) → c < count_of index.now → Apart (moves_of index.now) c d → Offered C.model (moves_of index.now) (has keep.now) (looked C.exact costs.now) c (looked C.exact offers.old c) }
+    ensures { AllOffered C.model (moves_of index.now) (has keep.now) (count_of index.now) (looked C.exact costs.now) (looked C.exact offers.new) }
 {
     for c in 0..offers.len() {
         if index.leads(c, d) {
@@ -193,11 +193,11 @@ fn fix<C: CostModel>(
 )
     requires sized { length costs.old ≡ count_of index.now }
     requires same { length offers.old ≡ count_of index.now }
-    requires few { Few model exact (done (slice_set costs.old label.condition (Some label.cost)) - 1) (slice_set costs.old label.condition (Some label.cost)) }
+    requires few { Few C.model C.exact (done (slice_set costs.old label.condition (Some label.cost)) - 1) (slice_set costs.old label.condition (Some label.cost)) }
     requires within { label.condition < count_of index.now }
-    requires rest { (c : ℕ) → c < count_of index.now → Apart (moves_of index.now) c label.condition → Offered model (moves_of index.now) (has keep.now) (looked exact (slice_set costs.old label.condition (Some label.cost))) c (looked exact (slice_set offers.old label.condition None) c) }
+    requires rest { (c : ℕ) → c < count_of index.now → Apart (moves_of index.now) c label.condition → Offered C.model (moves_of index.now) (has keep.now) (looked C.exact (slice_set costs.old label.condition (Some label.cost))) c (looked C.exact (slice_set offers.old label.condition None) c) }
     ensures costs { costs.new ≡ slice_set costs.old label.condition (Some label.cost) }
-    ensures offers { AllOffered model (moves_of index.now) (has keep.now) (count_of index.now) (looked exact costs.new) (looked exact offers.new) }
+    ensures offers { AllOffered C.model (moves_of index.now) (has keep.now) (count_of index.now) (looked C.exact costs.new) (looked C.exact offers.new) }
 {
     costs[label.condition] = Some(label.cost);
     offers[label.condition] = None;
@@ -211,7 +211,7 @@ fn solve<C: CostModel>(
     keep: &[bool],
     goal: &[bool],
 ) -> Result<Vec<Option<C::Cost>>, AllocError>
-    ensures { IfOk result (λ v. Settled model exact (moves_of index.now) (has keep.now) (has goal.now) (count_of index.now) v.items) }
+    ensures { IfOk result (λ v. Settled C.model C.exact (moves_of index.now) (has keep.now) (has goal.now) (count_of index.now) v.items) }
 {
     let mut costs = begin::<C>(heap, index.conditions(), goal)?;
     let mut offers = offers_of::<C>(heap, index, keep, &costs)?;
@@ -229,9 +229,9 @@ fn choose<C: CostModel>(
     c: usize,
 ) -> Choice<C::Cost>
     requires sized { length costs.now ≡ count_of index.now }
-    requires early { Early model exact 254 costs.now }
+    requires early { Early C.model C.exact 254 costs.now }
     requires within { c < length costs.now }
-    ensures { Picked model exact (moves_of index.now) (looked exact costs.now) (has goal.now) c result }
+    ensures { Picked C.model C.exact (moves_of index.now) (looked C.exact costs.now) (has goal.now) c result }
 {
     if flag_at(goal, c) {
         return Choice::There;
@@ -252,7 +252,7 @@ pub fn search<C: CostModel>(
     keep: &[bool],
     goal: &[bool],
 ) -> Result<Vec<Choice<C::Cost>>, AllocError>
-    ensures { IfOk result (λ v. Answers (count_of index.now) model exact (moves_of index.now) keep.now goal.now v.items) }
+    ensures { IfOk result (λ v. Answers (count_of index.now) C.model C.exact (moves_of index.now) keep.now goal.now v.items) }
 {
     let costs = solve::<C>(heap, index, keep, goal)?;
     let mut choices = Vec::new(heap);

@@ -21,7 +21,7 @@ fn choose<C: CostModel>(
     requires keep { KeepRows (domain_in index.now) keep.now }
     requires goals { GoalRows (domain_in index.now) goals.now }
     requires within { i < length (domain_in index.now).tasks }
-    ensures { IfOk result (λ v. (length v.items ≡ (domain_in index.now).conditions) × ChosenRow model exact (domain_in index.now) i (λ c. slice_index_or v.items c None)) }
+    ensures { IfOk result (λ v. (length v.items ≡ (domain_in index.now).conditions) × ChosenRow C.model C.exact (domain_in index.now) i (λ c. slice_index_or v.items c None)) }
 {
     let width = index.conditions();
     let start = i * width;
@@ -40,7 +40,7 @@ pub(crate) fn choose_all<C: CostModel>(
     requires requests { requests ≡ length (domain_in index.now).tasks }
     requires keep { KeepRows (domain_in index.now) keep.now }
     requires goals { GoalRows (domain_in index.now) goals.now }
-    ensures { IfOk result (λ v. Chosen model exact (domain_in index.now) v.items) }
+    ensures { IfOk result (λ v. Chosen C.model C.exact (domain_in index.now) v.items) }
 {
     let mut choices = Vec::new(heap);
     for i in 0..requests {

@@ -30,7 +30,7 @@ impl From<AllocError> for SolveError {
 }
 
 fn work_out<C: CostModel>(heap: Global, port: &Port) -> Result<Solution<C::Cost>, AllocError>
-    ensures { IfOk result (λ s. Worked model exact (domain_of (model_of port.now)) s.choices.items s.ranks.items) }
+    ensures { IfOk result (λ s. Worked C.model C.exact (domain_of (model_of port.now)) s.choices.items s.ranks.items) }
 {
     let Verdict {
         index,
@@ -83,7 +83,7 @@ pub fn solve<C: CostModel>(
     costs: &mut [C::Cost],
     ranks: &mut [u16],
 ) -> Result<Summary, SolveError>
-    ensures { Outcome (domain_of (model_of port.now)) model exact (start_of (model_of port.now)) entries.old entries.new costs.old costs.new ranks.old ranks.new result }
+    ensures { Outcome (domain_of (model_of port.now)) C.model C.exact (start_of (model_of port.now)) entries.old entries.new costs.old costs.new ranks.old ranks.new result }
 {
     if !has_room(port, entries.len(), costs.len(), ranks.len()) {
         return Err(SolveError::Short);

@@ -18,7 +18,7 @@ fn entry_of<K: Copy>(choice: Choice<K>) -> Entry
 }
 
 fn cost_of<C: CostModel>(choice: Choice<C::Cost>) -> C::Cost
-    ensures { exact result ≡ exact_of model exact choice }
+    ensures { C.exact result ≡ exact_of C.model C.exact choice }
 {
     match choice {
         Choice::None => C::zero(),
@@ -41,7 +41,7 @@ pub(crate) fn write_entries<K: Copy>(choices: &[Choice<K>], entries: &mut [Entry
 // The costs of the choices, from the first place on.
 pub(crate) fn write_costs<C: CostModel>(choices: &[Choice<C::Cost>], costs: &mut [C::Cost])
     requires { length choices.now ≤ length costs.old }
-    ensures here { take (length choices.now) (mapped exact costs.new) ≡ mapped (exact_of model exact) choices.now }
+    ensures here { take (length choices.now) (mapped C.exact costs.new) ≡ mapped (exact_of C.model C.exact) choices.now }
     ensures rest { dropped (length choices.now) costs.new ≡ dropped (length choices.now) costs.old }
 {
     for i in 0..choices.len() {

@@ -31,14 +31,14 @@ pub fn cost_after<K: Copy>(costs: &[Option<K>], m: &Move) -> Option<K>
 
 // Whether a move leads to a cost below `cost`.
 fn leads_below<C: CostModel>(costs: &[Option<C::Cost>], m: &Move, cost: C::Cost) -> bool
-    ensures { result ≡ under_of model (looked exact costs.now m.now.outcome) (Some (exact cost)) }
+    ensures { result ≡ under_of C.model (looked C.exact costs.now m.now.outcome) (Some (C.exact cost)) }
 {
     under::<C>(cost_after(costs, m), Some(cost))
 }
 
 // Whether each of the moves leads to a cost below `cost`.
 pub fn all_below<C: CostModel>(moves: &[Move], costs: &[Option<C::Cost>], cost: C::Cost) -> bool
-    ensures { Decides result (AllBelow model (looked exact costs.now) moves.now (exact cost)) }
+    ensures { Decides result (AllBelow C.model (looked C.exact costs.now) moves.now (C.exact cost)) }
 {
     for m in moves {
         if !leads_below::<C>(costs, m, cost) {
@@ -50,14 +50,14 @@ pub fn all_below<C: CostModel>(moves: &[Move], costs: &[Option<C::Cost>], cost: 
 
 // Whether the offer for `c` is under the one for `d`.
 fn offers_less<C: CostModel>(offers: &[Option<C::Cost>], c: usize, d: usize) -> bool
-    ensures { result ≡ under_of model (looked exact offers.now c) (looked exact offers.now d) }
+    ensures { result ≡ under_of C.model (looked C.exact offers.now c) (looked C.exact offers.now d) }
 {
     under::<C>(cost_at(offers, c), cost_at(offers, d))
 }
 
 // The condition with the least offer, and the first of equals.
 fn least_place<C: CostModel>(offers: &[Option<C::Cost>]) -> usize
-    ensures { LowPlace model exact offers.now (length offers.now) result }
+    ensures { LowPlace C.model C.exact offers.now (length offers.now) result }
 {
     let mut best = 0;
     for c in 0..offers.len() {
@@ -80,7 +80,7 @@ fn labelled<K: Copy>(condition: usize, offer: Option<K>) -> Option<Label<K>>
 
 // The least offer, and the first of equals.
 pub fn least<C: CostModel>(offers: &[Option<C::Cost>]) -> Option<Label<C::Cost>>
-    ensures { LeastOf model exact offers.now (length offers.now) result }
+    ensures { LeastOf C.model C.exact offers.now (length offers.now) result }
 {
     let best = least_place::<C>(offers);
     labelled(best, cost_at(offers, best))
