@@ -7,7 +7,7 @@ use Rattle.port.specs.declared.Move.{Move}
 use Rattle.plans.specs.Plans.{Plan, stop, work, Within, Can, IsRun, Attains}
 use Rattle.plans.specs.Reach.{some, each, leads}
 use Rattle.plans.proofs.Decide.{each_in, some_in, implies, or_cases, leads_iff}
-use Rattle.costs.specs.Costs.{Model, WeakLaws, Sized, Le, cost as run-cost}
+use Rattle.costs.specs.Costs.{Model, WeakLaws, Sized, Le, cost as run_cost}
 use Rattle.search.specs.Answers.{Costs, Prices, Answer}
 use Rattle.search.specs.Labels.{After, Worst, Offered, Final}
 use Rattle.search.specs.declared.Choice.{Choice}
@@ -275,19 +275,19 @@ module _ (k : Model) (moves : List Move) (keep goal : ℕ → Bool) (n : ℕ) (e
 
     -- ── each plan has a run of at least the cost ──
 
-    at_goal : (p : Plan) (c : ℕ) (f : List ℕ) → goal c ≡ true → table c ≡ Some f → Attains moves keep goal p c → (ms : List Move) × IsRun moves p c ms × Le k f (run-cost k ms)
+    at_goal : (p : Plan) (c : ℕ) (f : List ℕ) → goal c ≡ true → table c ≡ Some f → Attains moves keep goal p c → (ms : List Move) × IsRun moves p c ms × Le k f (run_cost k ms)
     at_goal p c f g q a =
         let r = (has_cost laws moves keep goal p c a).1.some in
-        (r.0, r.1, subst (λ (x : List ℕ). Le k x (run-cost k r.0)) (zero_at c f g q) (laws.least (run-cost k r.0) (cost_sized laws r.0)))
+        (r.0, r.1, subst (λ (x : List ℕ). Le k x (run_cost k r.0)) (zero_at c f g q) (laws.least (run_cost k r.0) (cost_sized laws r.0)))
 
-    at_least : (p : Plan) (c : ℕ) (f : List ℕ) → table c ≡ Some f → Attains moves keep goal p c → (ms : List Move) × IsRun moves p c ms × Le k f (run-cost k ms)
+    at_least : (p : Plan) (c : ℕ) (f : List ℕ) → table c ≡ Some f → Attains moves keep goal p c → (ms : List Move) × IsRun moves p c ms × Le k f (run_cost k ms)
     at_least stop c f q a = at_goal stop c f (a.1 [] tt).1 q a
     at_least (work o more) c f q a =
         go (goal c) refl (λ m b can e. at_least (more m.outcome) m.outcome b e (after moves keep goal o more c a m can))
       where
         go : (g : Bool) → goal c ≡ g →
-            ((m : Move) (b : List ℕ) → Can moves c o m → table m.outcome ≡ Some b → (ms : List Move) × IsRun moves (more m.outcome) m.outcome ms × Le k b (run-cost k ms)) →
-            (ms : List Move) × IsRun moves (work o more) c ms × Le k f (run-cost k ms)
+            ((m : Move) (b : List ℕ) → Can moves c o m → table m.outcome ≡ Some b → (ms : List Move) × IsRun moves (more m.outcome) m.outcome ms × Le k b (run_cost k ms)) →
+            (ms : List Move) × IsRun moves (work o more) c ms × Le k f (run_cost k ms)
         go true g later = at_goal (work o more) c f g q a
         go false g later =
             ⊎_elim
@@ -299,13 +299,13 @@ module _ (k : Model) (moves : List Move) (keep goal : ℕ → Bool) (n : ℕ) (e
             let v = worked c f q g in
             let sized = cost_sized laws r.0 in
             let le : Le k f w.0 = subst (λ (x : List ℕ). Le k x w.0) v.3 (v.2.no_less o w.0 w.1) in
-            let up : Le k w.0 (k.join m (run-cost k r.0)) =
-            subst (λ (x : List ℕ). Le k x (k.join m (run-cost k r.0))) t.2.2
-            (laws.keeps m t.2.0 (run-cost k r.0) (good m.outcome t.2.0 t.2.1) sized r.2) in (
+            let up : Le k w.0 (k.join m (run_cost k r.0)) =
+            subst (λ (x : List ℕ). Le k x (k.join m (run_cost k r.0))) t.2.2
+            (laws.keeps m t.2.0 (run_cost k r.0) (good m.outcome t.2.0 t.2.1) sized r.2) in (
               m ∷ r.0,
               (t.1, r.1),
-              laws.chain f w.0 (k.join m (run-cost k r.0)) (good c f q) (worst_sized laws (After table) (λ m a q. good m.outcome a q) w.0 w.1)
-                  (laws.join_sized m (run-cost k r.0) sized) le up,
+              laws.chain f w.0 (k.join m (run_cost k r.0)) (good c f q) (worst_sized laws (After table) (λ m a q. good m.outcome a q) w.0 w.1)
+                  (laws.join_sized m (run_cost k r.0) sized) le up,
             ))
             (look laws moves keep goal n inside table good c o a.0.0)
 

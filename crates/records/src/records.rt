@@ -2,7 +2,7 @@
 ghost use Rattle.std.specs.Prelude.{◌≡◌, ℕ, ◌-◌, ◌^◌, ◌<◌, ◌≤◌, min};
 ghost use Rattle.records.specs.Drafts.{draft_model};
 ghost use Rattle.records.specs.Entries.{entry_of, head_of, request_at};
-ghost use Rattle.reading.specs.Reading.{low_limit, high_limit, condition as conditionRead, move as moveRead, request as requestRead, head as headRead, present, entry as entryRead};
+ghost use Rattle.reading.specs.Reading.{low_limit, high_limit, condition as condition_read, move as move_read, request as request_read, head as head_read, present, entry as entry_read};
 ghost use Rattle.reader.specs.Reads.{Reads, itself};
 
 use crate::draft::Draft;
@@ -90,7 +90,7 @@ fn high_limit(marks: u8) -> usize
 
 // Takes the beginning of a record apart. Its kind is judged before a map byte is looked for.
 fn read_head(reader: &mut Reader, draft: &Draft) -> Result<Head, PortFault>
-    ensures { Reads (headRead (draft_model draft.now)) head_of itself reader.old reader.new result }
+    ensures { Reads (head_read (draft_model draft.now)) head_of itself reader.old reader.new result }
 {
     let place = reader.place;
     match reader.rest {
@@ -118,7 +118,7 @@ fn read_head(reader: &mut Reader, draft: &Draft) -> Result<Head, PortFault>
 
 // A condition: the low and the high byte of its marks.
 fn read_condition(reader: &mut Reader, draft: &Draft, head: Head) -> Result<u16, PortFault>
-    ensures { Reads (conditionRead (draft_model draft.now) head.place head.map_place head.map) itself itself reader.old reader.new result }
+    ensures { Reads (condition_read (draft_model draft.now) head.place head.map_place head.map) itself itself reader.old reader.new result }
 {
     let marks = draft.header.marks;
     let low = reader.next_field(head.first(), head.map_place, low_limit(marks))?;
@@ -132,7 +132,7 @@ fn read_condition(reader: &mut Reader, draft: &Draft, head: Head) -> Result<u16,
 
 // A move: its condition, operation, outcome and minutes.
 fn read_move(reader: &mut Reader, draft: &Draft, head: Head) -> Result<Move, PortFault>
-    ensures { Reads (moveRead (draft_model draft.now) head.place head.map_place head.map) itself itself reader.old reader.new result }
+    ensures { Reads (move_read (draft_model draft.now) head.place head.map_place head.map) itself itself reader.old reader.new result }
 {
     let conditions = draft.conditions.len();
     let operations = draft.header.operations as usize;
@@ -158,7 +158,7 @@ fn read_request<'a>(
     draft: &Draft,
     head: Head,
 ) -> Result<RequestAt<'a>, PortFault>
-    ensures { Reads (requestRead (draft_model draft.now) head.map_place head.map) request_at itself reader.old reader.new result }
+    ensures { Reads (request_read (draft_model draft.now) head.map_place head.map) request_at itself reader.old reader.new result }
 {
     let stages = draft.header.stages as usize;
     let marks = draft.header.marks;
@@ -176,7 +176,7 @@ fn read_request<'a>(
 
 // The record that stands next, as it may follow what was read already.
 pub fn read_record<'a>(reader: &mut Reader<'a>, draft: &Draft) -> Result<Record<'a>, PortFault>
-    ensures { Reads (entryRead (draft_model draft.now)) entry_of itself reader.old reader.new result }
+    ensures { Reads (entry_read (draft_model draft.now)) entry_of itself reader.old reader.new result }
 {
     let head = read_head(reader, draft)?;
     match head.kind {

@@ -19,7 +19,7 @@ use Rattle.rounds.specs.Legs.{no_leg}
 use Rattle.rounds.specs.Rows.{Agree, Besides}
 use Rattle.rounds.specs.Rounds.{Aimed, Fresh, TasksFor, planned, serving}
 use Rattle.rounds.specs.declared.Leg.{Leg}
-use Rattle.rounds.specs.declared.tables.Tasks.{Tasks}
+use Rattle.rounds.specs.declared.tasks.Tasks.{Tasks}
 use Rattle.rounds.proofs.Writes.{row_apart}
 
 -- a choice has a plan exactly where some plan attains the goal

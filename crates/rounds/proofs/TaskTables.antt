@@ -11,7 +11,7 @@ use Rattle.rounds.specs.Legs.{leg_at, no_leg}
 use Rattle.rounds.specs.Tables.{TasksOf, leg_of, truths, keep_row, reach_row}
 use Rattle.rounds.specs.Rounds.{TasksFor}
 use Rattle.rounds.specs.Verdicts.{KeepRows}
-use Rattle.rounds.specs.declared.tables.Tasks.{Tasks}
+use Rattle.rounds.specs.declared.tasks.Tasks.{Tasks}
 
 -- rows of one width
 module _ {A B : Type 0} (f : A → List B) (n : ℕ) (wide : (x : A) → length (f x) ≡ n) where

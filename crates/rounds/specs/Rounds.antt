@@ -11,7 +11,7 @@ use Rattle.search.specs.declared.Choice.{Choice}
 use Rattle.search.specs.declared.Choice.TheVariants.{None, There, Work}
 use Rattle.rounds.specs.Legs.{leg_at}
 use Rattle.rounds.specs.Rows.{Agree}
-use Rattle.rounds.specs.declared.tables.Tasks.{Tasks}
+use Rattle.rounds.specs.declared.tasks.Tasks.{Tasks}
 
 -- The planning domain of an indexed port.
 abbrev pub domain_in : MoveIndex → Domain

@@ -4,7 +4,7 @@ use Rattle.std.specs.List.{flat_map}
 use Rattle.formula.specs.Truth.{truth}
 use Rattle.port.specs.Model.{Model, RequestModel}
 use Rattle.rounds.specs.declared.Leg.{Leg}
-use Rattle.rounds.specs.declared.tables.Tasks.{Tasks}
+use Rattle.rounds.specs.declared.tasks.Tasks.{Tasks}
 
 -- The stages of a request.
 abbrev pub leg_of : RequestModel → Leg

@@ -10,7 +10,7 @@ ghost use Rattle.rounds.specs.Verdicts.{GoalRows, Judges, RankRows};
 
 use crate::flags::{note_lost, settle};
 use crate::service::{set_goals, take_turn};
-use crate::tables::Tasks;
+use crate::tasks::Tasks;
 use index::MoveIndex;
 use port::Port;
 use std::alloc::{AllocError, Global};

@@ -4,7 +4,7 @@
 mod flags;
 mod judging;
 mod service;
-mod tables;
+mod tasks;
 
 pub use judging::{Verdict, judge};
 

@@ -8,7 +8,7 @@ ghost use Rattle.rounds.specs.Rounds.{Aimed, Fresh, TasksFor, domain_in, places,
 ghost use Rattle.rounds.specs.Rows.{Besides, Narrowed};
 
 use crate::flags::{both, narrow};
-use crate::tables::Tasks;
+use crate::tasks::Tasks;
 use costs::MoveCount;
 use index::MoveIndex;
 use search::{Choice, search};

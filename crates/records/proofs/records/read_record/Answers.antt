@@ -11,35 +11,35 @@ returns-in_err-head c =
     let p = err_from_is_err_and c.from_residual.result c.from_residual.ensures.1 in
     rw (p.1, p.2) (then_fault _ c.in_err-head.ensures)
 
-pub returns-in_err-read_condition : goal.returns-in_err-read_condition
+pub returns-in_err-read_condition-in-Condition : goal.returns-in_err-read_condition-in-Condition
 unfolding entry
-returns-in_err-read_condition c =
-    let p = err_from_is_err_and c.from_residual-in_err-read_condition.result c.from_residual-in_err-read_condition.ensures.1 in
-    rw (p.1, p.2) (then_got _ c.in_ok-head.ensures ∙ body_1 _ _ _ _ (ap kind_number c.in-Condition.is) ∙ then_fault _ c.in_err-read_condition.ensures)
+returns-in_err-read_condition-in-Condition c =
+    let p = err_from_is_err_and c.from_residual-in_err-read_condition-in-Condition.result c.from_residual-in_err-read_condition-in-Condition.ensures.1 in
+    rw (p.1, p.2) (then_got _ c.in_ok-head.ensures ∙ body_1 _ _ _ _ (ap kind_number c.in-Condition.is) ∙ then_fault _ c.in_err-read_condition-in-Condition.ensures)
 
-pub returns-in_ok-read_condition : goal.returns-in_ok-read_condition
+pub returns-in_ok-read_condition-in-Condition : goal.returns-in_ok-read_condition-in-Condition
 unfolding entry
-returns-in_ok-read_condition c =
-    then_got _ c.in_ok-head.ensures ∙ body_1 _ _ _ _ (ap kind_number c.in-Condition.is) ∙ then_got _ c.in_ok-read_condition.ensures
+returns-in_ok-read_condition-in-Condition c =
+    then_got _ c.in_ok-head.ensures ∙ body_1 _ _ _ _ (ap kind_number c.in-Condition.is) ∙ then_got _ c.in_ok-read_condition-in-Condition.ensures
 
-pub returns-in_err-read_move : goal.returns-in_err-read_move
+pub returns-in_err-read_move-in-Move : goal.returns-in_err-read_move-in-Move
 unfolding entry
-returns-in_err-read_move c =
-    let p = err_from_is_err_and c.from_residual-in_err-read_move.result c.from_residual-in_err-read_move.ensures.1 in
-    rw (p.1, p.2) (then_got _ c.in_ok-head.ensures ∙ body_2 _ _ _ _ (ap kind_number c.in-Move.is) ∙ then_fault _ c.in_err-read_move.ensures)
+returns-in_err-read_move-in-Move c =
+    let p = err_from_is_err_and c.from_residual-in_err-read_move-in-Move.result c.from_residual-in_err-read_move-in-Move.ensures.1 in
+    rw (p.1, p.2) (then_got _ c.in_ok-head.ensures ∙ body_2 _ _ _ _ (ap kind_number c.in-Move.is) ∙ then_fault _ c.in_err-read_move-in-Move.ensures)
 
-pub returns-in_ok-read_move : goal.returns-in_ok-read_move
+pub returns-in_ok-read_move-in-Move : goal.returns-in_ok-read_move-in-Move
 unfolding entry
-returns-in_ok-read_move c =
-    then_got _ c.in_ok-head.ensures ∙ body_2 _ _ _ _ (ap kind_number c.in-Move.is) ∙ then_got _ c.in_ok-read_move.ensures
+returns-in_ok-read_move-in-Move c =
+    then_got _ c.in_ok-head.ensures ∙ body_2 _ _ _ _ (ap kind_number c.in-Move.is) ∙ then_got _ c.in_ok-read_move-in-Move.ensures
 
-pub returns-in_err-read_request : goal.returns-in_err-read_request
+pub returns-in_err-read_request-in-Request : goal.returns-in_err-read_request-in-Request
 unfolding entry
-returns-in_err-read_request c =
-    let p = err_from_is_err_and c.from_residual-in_err-read_request.result c.from_residual-in_err-read_request.ensures.1 in
-    rw (p.1, p.2) (then_got _ c.in_ok-head.ensures ∙ body_3 _ _ _ _ (ap kind_number c.in-Request.is) ∙ then_fault _ c.in_err-read_request.ensures)
+returns-in_err-read_request-in-Request c =
+    let p = err_from_is_err_and c.from_residual-in_err-read_request-in-Request.result c.from_residual-in_err-read_request-in-Request.ensures.1 in
+    rw (p.1, p.2) (then_got _ c.in_ok-head.ensures ∙ body_3 _ _ _ _ (ap kind_number c.in-Request.is) ∙ then_fault _ c.in_err-read_request-in-Request.ensures)
 
-pub returns-in_ok-read_request : goal.returns-in_ok-read_request
+pub returns-in_ok-read_request-in-Request : goal.returns-in_ok-read_request-in-Request
 unfolding entry
-returns-in_ok-read_request c =
-    then_got _ c.in_ok-head.ensures ∙ body_3 _ _ _ _ (ap kind_number c.in-Request.is) ∙ then_got _ c.in_ok-read_request.ensures
+returns-in_ok-read_request-in-Request c =
+    then_got _ c.in_ok-head.ensures ∙ body_3 _ _ _ _ (ap kind_number c.in-Request.is) ∙ then_got _ c.in_ok-read_request-in-Request.ensures

@@ -17,8 +17,8 @@ run_rounds-requires c =
       tasks = c.requires.tasks;
       start = going_start D _ _ _ _ _ _ c.requires.goals
           (c.deref_mut.ensures.len ∙ c.in_ok-served.ensures.len ∙ ap₂ ◌*◌ many wide)
-          (c.deref_mut-2.ensures.value ∙ c.in_ok-lost.ensures.items-if-clones-equal (λ y e. e) ∙ ap (λ (n : ℕ). replicate n true) high)
+          (c.deref_mut-2.ensures.value ∙ c.in_ok-lost.ensures.items_if_clones_equal (λ y e. e) ∙ ap (λ (n : ℕ). replicate n true) high)
           c.requires.alive
-          (c.deref_mut-3.ensures.value ∙ c.in_ok-next.ensures.items-if-clones-equal (λ y e. e) ∙ ap (λ (n : ℕ). replicate n true) (ap₂ ◌*◌ high wide))
+          (c.deref_mut-3.ensures.value ∙ c.in_ok-next.ensures.items_if_clones_equal (λ y e. e) ∙ ap (λ (n : ℕ). replicate n true) (ap₂ ◌*◌ high wide))
           c.requires.ranks wf;
     }

@@ -27,7 +27,7 @@ loop-changed-preserved c =
     c.loop-changed.alive c.settle-changed.new.alive c.loop-changed.next next c.loop-changed.ranks c.settle-changed.new.ranks k c.settle-changed.result
     g c.run_round.auto.goals c.run_round.auto.served c.note_lost.auto.lost c.run_round.auto.next
     e.fresh e.down e.left
-    (λ s x ls lx f. same s x (omega (arith, c.note_lost.auto.lost, g.lost-long)) lx f)
+    (λ s x ls lx f. same s x (omega (arith, c.note_lost.auto.lost, g.lost_long)) lx f)
     d c.settle-changed.ensures.left)
 
 pub returns : goal.returns

@@ -86,7 +86,7 @@ fix-requires g c =
           (rest_next laws k.exact g.met.C.CostModel.sized ms keep goal n within timely costs offers state b low d l apart));
     }
 
-step : (g : _) (c : goal.After-offers-in-Some-2·1 g) →
+step : (g : _) (c : goal.After-offers-in-Some-2-1 g) →
     let k = g.C.CostModel in
     State k.model k.exact (moves_of c.args.index.now) (has c.args.keep.now) (has c.args.goal.now) (count_of c.args.index.now) (vec_items (with_items c.loop-label.costs c.fix.new.costs)) (vec_items (with_items c.loop-label.offers c.fix.new.offers))
     × (done (vec_items (with_items c.loop-label.costs c.fix.new.costs)) ≡ suc (done (vec_items c.loop-label.costs)))

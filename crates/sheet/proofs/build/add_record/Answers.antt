@@ -8,14 +8,14 @@ use Rattle.sheet.proofs.build.add_record.Goals as goal
 pub owned-requires : goal.owned-requires
 owned-requires c = subst EntrySized (ap entry_of c.in-Request.is) c.requires
 
-pub returns-in_ok-push : goal.returns-in_ok-push
-returns-in_ok-push c =
-    record { header = refl; added = added_condition (draft_model c.args.draft.now) (entry_of c.args.entry) _ _ (ap entry_of c.in-Condition.is) (pushed _ _ _ _ _ c.push.ensures.items c.in_ok-push.was) }
+pub returns-in_ok-push-in-Condition : goal.returns-in_ok-push-in-Condition
+returns-in_ok-push-in-Condition c =
+    record { header = refl; added = added_condition (draft_model c.args.draft.now) (entry_of c.args.entry) _ _ (ap entry_of c.in-Condition.is) (pushed _ _ _ _ _ c.push.ensures.items c.in_ok-push-in-Condition.was) }
 
-pub returns-in_ok-push-2 : goal.returns-in_ok-push-2
-returns-in_ok-push-2 c =
-    record { header = refl; added = added_move (draft_model c.args.draft.now) (entry_of c.args.entry) _ _ (ap entry_of c.in-Move.is) (pushed _ _ _ _ _ c.push-in-Move.ensures.items c.in_ok-push-2.was) }
+pub returns-in_ok-push-in-Move : goal.returns-in_ok-push-in-Move
+returns-in_ok-push-in-Move c =
+    record { header = refl; added = added_move (draft_model c.args.draft.now) (entry_of c.args.entry) _ _ (ap entry_of c.in-Move.is) (pushed _ _ _ _ _ c.push-in-Move.ensures.items c.in_ok-push-in-Move.was) }
 
-pub returns-in_ok-push-3 : goal.returns-in_ok-push-3
-returns-in_ok-push-3 c =
-    record { header = refl; added = added_request (draft_model c.args.draft.now) (entry_of c.args.entry) _ _ _ _ (ap entry_of c.in-Request.is) refl (pushed _ _ _ _ _ c.push-in-Request.ensures.items c.in_ok-push-3.was) c.in_ok-request.ensures }
+pub returns-in_ok-push-in-Request : goal.returns-in_ok-push-in-Request
+returns-in_ok-push-in-Request c =
+    record { header = refl; added = added_request (draft_model c.args.draft.now) (entry_of c.args.entry) _ _ _ _ (ap entry_of c.in-Request.is) refl (pushed _ _ _ _ _ c.push-in-Request.ensures.items c.in_ok-push-in-Request.was) c.in_ok-request-in-Request.ensures }

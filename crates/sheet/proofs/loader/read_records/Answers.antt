@@ -21,7 +21,7 @@ loop-reader-preserved c = (
   λ fuel le.
       let i = c.loop-reader.invariant.1 fuel le in
       let m = records_more i.0 c.loop-reader.count _ _ _ _ _ _ c.loop-reader-test.true i.1 c.in-Ok.ensures in
-      (m.0, m.1, i.2 ∙ m.2 ∙ ap (λ x. records m.0 (c.loop-reader.count + 1) x c.read_record.new.reader.place c.read_record.new.reader.rest.now) (sym c.in_ok-add_record.ensures.added)),
+      (m.0, m.1, i.2 ∙ m.2 ∙ ap (λ x. records m.0 (c.loop-reader.count + 1) x c.read_record.new.reader.place c.read_record.new.reader.rest.now) (sym c.in_ok-add_record-in-Ok.ensures.added)),
 )
 
 pub returns : goal.returns

@@ -2,7 +2,7 @@ use Rattle.std.proofs.Common.{◌≡◌, map, take, vec_items}
 use Rattle.std.specs.List.{flat_map}
 use Rattle.port.specs.Model.{request_model}
 use Rattle.rounds.specs.Tables.{leg_of, keep_row, reach_row}
-use Rattle.rounds.proofs.tables.Tasks.new.Given as goal
+use Rattle.rounds.proofs.tasks.Tasks.new.Given as goal
 
 abbrev pub invariant-loop-request : goal.invariant-loop-request
 invariant-loop-request l =

@@ -1,7 +1,7 @@
 use Rattle.std.proofs.Common.{[], ◌∷◌, ◌++◌, vec_items, ap, ◌∙◌}
 use Rattle.formula.specs.Truth.{truth}
 use Rattle.rounds.proofs.Rows.{row_more, row_all}
-use Rattle.rounds.proofs.tables.add_row.Goals as goal
+use Rattle.rounds.proofs.tasks.add_row.Goals as goal
 
 pub loop-marks-preserved : goal.loop-marks-preserved
 loop-marks-preserved c =

@@ -3,7 +3,7 @@ use Rattle.std.specs.List.{flat_map}
 use Rattle.port.specs.Model.{request_model}
 use Rattle.rounds.specs.Tables.{leg_of, keep_row, reach_row}
 use Rattle.rounds.proofs.Rows.{rows_more, maps_more, taken_all, in_at}
-use Rattle.rounds.proofs.tables.Tasks.new.Goals as goal
+use Rattle.rounds.proofs.tasks.Tasks.new.Goals as goal
 
 pub add_rows-requires : goal.add_rows-requires
 add_rows-requires c =

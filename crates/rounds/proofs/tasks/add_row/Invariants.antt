@@ -1,6 +1,6 @@
 use Rattle.std.proofs.Common.{◌≡◌, ◌++◌, take, vec_items}
 use Rattle.rounds.specs.Tables.{truths}
-use Rattle.rounds.proofs.tables.add_row.Given as goal
+use Rattle.rounds.proofs.tasks.add_row.Given as goal
 
 abbrev pub invariant-loop-marks : goal.invariant-loop-marks
 invariant-loop-marks l =
