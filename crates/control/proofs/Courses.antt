@@ -1,16 +1,16 @@
 -- A log grows by one call, and over a lock of the controller's own port a whole one is a history.
-use Rattle.std.proofs.Common.{◌≡◌, ℕ, List, [], ◌∷◌, ◌++◌, map, Option, sym, refl, ap, ◌∙◌, subst}
+use Rattle.std.proofs.Common.{◌≡◌, ℕ, List, [], ◌∷◌, ◌++◌, map, refl, ap, ◌∙◌, subst}
 use Rattle.port.specs.Limits.{Rise}
 use Rattle.port.specs.Model.{Model, model_of}
 use Rattle.port.specs.declared.held.Port.{Port}
 use Rattle.costs.specs.Costs.{Model as CostsOf}
 use Rattle.solver.specs.Policy.{World}
 use Rattle.histories.specs.declared.Command.{Command}
-use Rattle.histories.specs.Calls.{At, Took, Event, History}
+use Rattle.histories.specs.Calls.{Event, History}
 use Rattle.control.specs.declared.answer.Answer.{Answer}
 use Rattle.control.specs.declared.policy.Policy.{Policy}
 use Rattle.control.specs.Worlds.{world}
-use Rattle.control.specs.States.{State, state, at_of, Does, Shows, Did}
+use Rattle.control.specs.States.{State, at_of, Does}
 use Rattle.control.specs.Outings.{Turn, Course, Logged, ShowsAll}
 use Rattle.control.proofs.Done.{did_own}
 

@@ -1,9 +1,9 @@
 -- A step, from what was ruled and what the lock did; and the calls over a lock of the controller's own port.
-use Rattle.std.proofs.Common.{◌≡◌, ℕ, ◌<◌, Bool, true, false, not, ◌⊎◌, List, [], ◌∷◌, Some, None, Ok, Err, Option, sym, refl, ap, ◌∙◌, subst, inl, inr, arith}
+use Rattle.std.proofs.Common.{◌≡◌, ℕ, true, false, List, Some, None, Ok, Option, sym, refl, ap, ◌∙◌, subst, inl, inr, arith}
 use Rattle.port.specs.Limits.{Rise}
 use Rattle.port.specs.Model.{Model}
 use Rattle.port.specs.declared.Move.{Move}
-use Rattle.plans.specs.Plans.{Can, Possible}
+use Rattle.plans.specs.Plans.{Can}
 use Rattle.locks.specs.Places.{place_of, possible, IsAt, Leads}
 use Rattle.locks.specs.Works.{Worked as LockWorked}
 use Rattle.locks.proofs.Standing.{place_found, place_is, possible_means}
@@ -11,9 +11,9 @@ use Rattle.solver.specs.declared.Entry.{Entry}
 use Rattle.solver.specs.declared.Entry.TheVariants.{Work}
 use Rattle.solver.specs.Policy.{World}
 use Rattle.histories.specs.declared.Command.{Command}
-use Rattle.histories.specs.declared.Command.TheVariants.{Quote, Ask, Step, Close}
+use Rattle.histories.specs.declared.Command.TheVariants.{Step}
 use Rattle.histories.specs.Calls.{Answer as Told}
-use Rattle.histories.specs.Calls.{At, Passes, refusal, rules, step_rules, entry_at, stuck, possible_at, Took, quoted, granted, worked, closed, refused}
+use Rattle.histories.specs.Calls.{At, Passes, refusal, rules, entry_at, stuck, Took, quoted, granted, worked, closed, refused}
 use Rattle.histories.proofs.Basics.{some_inj, not_false, passes_clear}
 use Rattle.control.specs.declared.answer.Answer.{Answer}
 use Rattle.control.specs.declared.answer.Answer.TheVariants.{Quoted, Granted, Worked, Closed, Refused}
@@ -21,7 +21,7 @@ use Rattle.control.specs.declared.answer.Ruling.TheVariants.{Work as Operate}
 use Rattle.control.specs.declared.refusal.Refusal.{Refusal}
 use Rattle.control.specs.Numbers.{refusal_number}
 use Rattle.control.specs.Rulings.{Next}
-use Rattle.control.specs.States.{State, state, at_of, Ruled, Balks, Does, Shows, Did}
+use Rattle.control.specs.States.{State, state, at_of, Ruled, Balks, Does, Did}
 
 module _ {K : Type 0} (e : K → List ℕ) (w : World) (cs : List ℕ) (M : Model) (s : ℕ) (out : Option ℕ) (k : Command) (m₀ m o m' : ℕ) (same : m₀ ≡ m)
     (ruled : Ruled e w (at_of cs (state s out m₀)) k (Ok (Operate o))) where

@@ -1,5 +1,5 @@
 -- What an opening settles.
-use Rattle.std.proofs.Common.{◌≡◌, ℕ, ◌+◌, ◌*◌, ◌<◌, Bool, true, false, not, eqb, ◌⊎◌, List, [], ◌∷◌, length, get_or, Some, None, Option, sym, refl, ap, ◌∙◌, subst, inl, inr, arith, eqb→eq}
+use Rattle.std.proofs.Common.{◌≡◌, ℕ, ◌+◌, ◌*◌, Bool, true, false, not, eqb, List, length, get_or, Some, None, Option, sym, refl, ap, ◌∙◌, inl, inr, eqb→eq}
 use Rattle.port.specs.Model.{model_of}
 use Rattle.port.specs.declared.held.Port.{Port}
 use Rattle.plans.specs.Domains.{domain_of}
@@ -14,7 +14,6 @@ use Rattle.histories.proofs.Basics.{was_true, eq_true, passes_clear, clear_passe
 use Rattle.histories.proofs.Rulings.{is_placed}
 use Rattle.histories.proofs.Holds.{promise_holds, opening_holds}
 use Rattle.control.specs.declared.policy.Policy.{Policy}
-use Rattle.control.specs.States.{at_of, state}
 use Rattle.control.specs.Worlds.{world, place_in, opening_rules}
 use Rattle.control.proofs.Ruled.{stops}
 

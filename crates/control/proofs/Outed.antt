@@ -1,12 +1,12 @@
 -- What an outing comes to, from what its parts promise.
-use Rattle.std.proofs.Common.{◌≡◌, ℕ, ◌*◌, ◌≤◌, Bool, true, false, cond, not, ◌&&◌, leb, List, [], ◌∷◌, map, length, Some, None, vec_items, vec_len, Option, sym, refl, ap, ◌∙◌, subst, arith, le→leb}
+use Rattle.std.proofs.Common.{◌≡◌, ℕ, ◌*◌, Bool, true, cond, not, leb, List, length, Some, None, vec_len, sym, refl, ap, ◌∙◌, subst, arith, le→leb}
 use Rattle.port.specs.Model.{model_of}
 use Rattle.port.specs.Model.{Model as PortModel}
 use Rattle.port.specs.declared.held.Port.{Port}
 use Rattle.plans.specs.Domains.{domain_of}
 use Rattle.costs.specs.Costs.{Model, Laws}
 use Rattle.solver.specs.declared.Entry.{Entry}
-use Rattle.solver.specs.Policy.{World, Solved}
+use Rattle.solver.specs.Policy.{Solved}
 use Rattle.solver.specs.Solving.{enough}
 use Rattle.histories.specs.declared.Command.{Command}
 use Rattle.histories.specs.Calls.{refusal, open_rules}
@@ -14,10 +14,9 @@ use Rattle.histories.proofs.Basics.{is_true, true_and}
 use Rattle.control.specs.declared.answer.Answer.{Answer}
 use Rattle.control.specs.declared.policy.Policy.{Policy}
 use Rattle.control.specs.declared.refusal.Refusal.{Refusal}
-use Rattle.control.specs.Numbers.{refusal_number}
-use Rattle.control.specs.States.{State, state}
+use Rattle.control.specs.States.{state}
 use Rattle.control.specs.Outings.{Ready, Stocked, ShowsAll, Outed, Toured, Turned, Told, Barred}
-use Rattle.control.specs.Worlds.{world, place_in, opening_rules}
+use Rattle.control.specs.Worlds.{world, place_in}
 use Rattle.control.proofs.Courses.{retold}
 use Rattle.control.proofs.Opened.{opens_in, promises, opening}
 use Rattle.control.proofs.Tables.{count_tasks}

@@ -1,7 +1,6 @@
 -- How the tests of the code settle the rules.
 use Rattle.std.proofs.Common.{◌≡◌, ℕ, Bool, true, false, cond, not, ◌⊎◌, List, [], ◌∷◌, ◌++◌, Some, None, Option, sym, refl, ap, ◌∙◌, inl, inr}
 use Rattle.solver.specs.declared.Entry.{Entry}
-use Rattle.solver.specs.declared.Entry.TheVariants.{None as Nothing, There, Work}
 use Rattle.solver.specs.Policy.{World}
 use Rattle.histories.specs.Calls.{Rule, rule, refusal, offered, placed, entry_at, cost_at, is_nothing, is_there, stuck, quote_rules, ask_rules, step_rules, close_rules}
 use Rattle.histories.proofs.Basics.{some_none, clear_passes}

@@ -11,7 +11,7 @@ use Rattle.solver.specs.Solving.{enough}
 use Rattle.locks.specs.Places.{place_of}
 use Rattle.histories.specs.declared.Command.{Command}
 use Rattle.histories.specs.Calls.{At, Event, History, Opens, refusal, open_rules, start_at}
-use Rattle.histories.specs.Promise.{Promise, Promised, Opening}
+use Rattle.histories.specs.Promise.{Promise, Opening}
 use Rattle.control.specs.declared.answer.Answer.{Answer}
 use Rattle.control.specs.declared.refusal.Refusal.{Refusal}
 use Rattle.control.specs.declared.policy.Policy.{Policy}

@@ -1,5 +1,5 @@
 -- What each call does, over any lock.
-use Rattle.std.specs.Prelude.{◌≡◌, ℕ, true, false, ◌⊎◌, List, [], ◌∷◌, map, Some, None, Ok, Err, Option, Result}
+use Rattle.std.specs.Prelude.{◌≡◌, ℕ, true, false, ◌⊎◌, List, Some, None, Ok, Err, Option, Result}
 use Rattle.port.specs.Model.{Model}
 use Rattle.port.specs.declared.Move.{Move}
 use Rattle.plans.specs.Flags.{task_at}

@@ -1,7 +1,7 @@
 -- One step of the reading by bytes, and what a reader has read after it. Assumes nothing.
 use Rattle.std.proofs.Common.{◌≡◌, ℕ, zero, suc, ◌+◌, ◌-◌, ◌<◌, ◌≤◌, Bool, true, false, List, [], ◌∷◌, length, get_or, drop, sym, refl, ap, ◌∙◌, add-one, arith, drop-cons, le-ltb, lt-ltb, ne_eqb, le-leb}
 use borrow.Author.Tests.{lt-leb, clash}
-use Rattle.formula.specs.Grammar.{goes, step, to, refuse, opens, after, stuck, AtomRead, ProductRead, SumRead, Refused, sum, nought, one, mark, not, group, single, and, only, or, both, some, flip, stands}
+use Rattle.formula.specs.Grammar.{goes, step, to, refuse, opens, after, stuck, AtomRead, ProductRead, SumRead, Refused, nought, one, mark, not, group, single, and, only, or, both, some, flip, stands}
 
 pub drop_all : (i : ℕ) (t : List ℕ) → length t ≤ i → drop i t ≡ []
 drop_all zero [] h = refl

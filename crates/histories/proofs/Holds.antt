@@ -1,25 +1,23 @@
 -- The promise holds of every history from an accepted opening.
-use Rattle.std.proofs.Common.{◌≡◌, ℕ, ◌<◌, Bool, true, false, cond, not, T, eqb, ◌⊎◌, ◌↔◌, List, [], ◌∷◌, length, Some, None, Option, sym, refl, ap, ◌∙◌, subst, inl, inr, true≢false, arith, eqb→eq}
-use mathlib.Core.Bool.{false≢true}
+use Rattle.std.proofs.Common.{◌≡◌, ℕ, ◌<◌, Bool, true, false, cond, not, eqb, List, [], ◌∷◌, length, Some, None, Option, sym, refl, ap, ◌∙◌, subst, inl, inr, arith, eqb→eq}
 use Rattle.port.specs.declared.Move.{Move}
 use Rattle.solver.specs.declared.Entry.{Entry}
 use Rattle.solver.specs.declared.Entry.TheVariants.{None as Nothing, There, Work}
 use Rattle.histories.specs.declared.Command.{Command}
 use Rattle.histories.specs.declared.Command.TheVariants.{Quote, Ask, Step, Close}
 use Rattle.port.specs.Limits.{In}
-use Rattle.plans.specs.Plans.{Plan}
 use Rattle.plans.specs.Simulation.{WellFormed, Kept}
 use Rattle.plans.specs.Flags.{task_at}
 use Rattle.costs.specs.Costs.{WeakLaws, Le}
 use Rattle.costs.proofs.Order.{weaken}
-use Rattle.solver.specs.Policy.{World, Safe, Solved}
-use Rattle.histories.specs.Calls.{At, Answer, quoted, granted, worked, closed, refused, entry_at, cost_at, rank_of, stuck, refusal, rules, Took, Event, History, Passes, offered, placed, rule, Opens, open_rules, start_at}
+use Rattle.solver.specs.Policy.{World, Solved}
+use Rattle.histories.specs.Calls.{At, Answer, quoted, granted, worked, closed, refused, entry_at, cost_at, rank_of, stuck, refusal, Took, Event, History, Passes, offered, placed, rule, Opens, open_rules, start_at}
 use Rattle.histories.specs.Errands.{Errand, onto, request_of, errands, left}
-use Rattle.histories.specs.Promise.{LeastInSimulations, Tells, Promise, Promised, PromiseHolds, Opening, OpeningHolds}
+use Rattle.histories.specs.Promise.{LeastInSimulations, Tells, Promised, PromiseHolds, OpeningHolds}
 use Rattle.histories.proofs.Basics.{was_true, not_false, some_inj, some_none, passes_clear, clear_passes, can_possible}
 use Rattle.histories.proofs.Policy.{quote_least, safe_entry, there_reach, work_possible, work_keep, kept_zero, zero_kept}
 use Rattle.histories.proofs.Rulings.{Met, offer_is, placed_is, is_placed, something, quote_met, ask_met, step_met, close_met, ask_passes, step_passes, close_passes}
-use Rattle.histories.proofs.Invariant.{Inv, Standing, Idle, Busy, Done, AllDone, Going, kept_safe, after_all}
+use Rattle.histories.proofs.Invariant.{Inv, Standing, Idle, Busy, AllDone, Going, kept_safe, after_all}
 
 -- each call of a history
 pub took_in : (w : World) (h : List Event) (a b : At) → History w a h b → (e : Event) → In e h → Took w e.before e.command e.answer e.after

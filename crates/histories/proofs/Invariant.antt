@@ -1,19 +1,17 @@
 -- What holds wherever a history has come, and that each call keeps it.
-use Rattle.std.proofs.Common.{◌≡◌, ℕ, ◌<◌, Bool, true, false, ◌⊎◌, List, [], ◌∷◌, ◌++◌, length, Some, None, Option, sym, refl, ap, ◌∙◌, subst, inl, inr, arith}
+use Rattle.std.proofs.Common.{◌≡◌, ℕ, ◌<◌, true, false, List, [], ◌∷◌, length, Some, None, Option, sym, refl, ap, ◌∙◌, subst, inl, inr}
 use Rattle.port.specs.declared.Move.{Move}
-use Rattle.solver.specs.declared.Entry.{Entry}
-use Rattle.solver.specs.declared.Entry.TheVariants.{None as Nothing, There, Work}
+use Rattle.solver.specs.declared.Entry.TheVariants.{There}
 use Rattle.histories.specs.declared.Command.{Command}
-use Rattle.histories.specs.declared.Command.TheVariants.{Quote, Ask, Step, Close}
 use Rattle.port.specs.Limits.{In}
-use Rattle.plans.specs.Plans.{Plan, Can}
+use Rattle.plans.specs.Plans.{Plan}
 use Rattle.plans.specs.Simulation.{WellFormed, Kept}
 use Rattle.plans.specs.Flags.{task_at}
 use Rattle.plans.proofs.Index.{in_at}
-use Rattle.costs.specs.Costs.{Model, WeakLaws, Sized, Le}
+use Rattle.costs.specs.Costs.{WeakLaws, Sized, Le}
 use Rattle.costs.proofs.Order.{reflexive}
 use Rattle.solver.specs.Policy.{World, Safe, Solved}
-use Rattle.histories.specs.Calls.{At, Answer, quoted, granted, worked, closed, refused, entry_at, cost_at, Took, Event, History, Passes}
+use Rattle.histories.specs.Calls.{At, Answer, quoted, granted, worked, closed, refused, entry_at, cost_at, Took, Event, History}
 use Rattle.histories.specs.Errands.{Errand, onto, request_of, moved, ended, noted, errands_after}
 use Rattle.histories.proofs.Basics.{some_inj}
 use Rattle.histories.proofs.Joins.{onto_sized, onto_keeps, onto_more}

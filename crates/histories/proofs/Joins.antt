@@ -4,7 +4,6 @@ use Rattle.port.specs.declared.Move.{Move}
 use Rattle.plans.specs.Plans.{Plan}
 use Rattle.costs.specs.Costs.{Model, WeakLaws, Sized, Le}
 use Rattle.search.specs.Answers.{Costs}
-use Rattle.search.proofs.Runs.{costs_sized}
 use Rattle.histories.specs.Errands.{onto}
 
 module _ {k : Model} (laws : WeakLaws k) where

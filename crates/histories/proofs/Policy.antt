@@ -1,16 +1,14 @@
 -- What follows from a solved policy at one request and condition.
-use Rattle.std.proofs.Common.{◌≡◌, ℕ, zero, suc, ◌<◌, Bool, true, false, ◌&&◌, T, eqb, ltb, ◌↔◌, List, [], ◌∷◌, length, sym, refl, ap, ◌∙◌, subst, inl, inr, arith, eqb→eq, ltb→lt, lt→ltb}
-use Rattle.port.specs.Limits.{In}
+use Rattle.std.proofs.Common.{◌≡◌, ℕ, ◌<◌, Bool, true, ◌&&◌, eqb, ltb, List, [], ◌∷◌, length, sym, refl, subst, eqb→eq, lt→ltb}
 use Rattle.port.specs.declared.Move.{Move}
-use Rattle.plans.specs.Plans.{Plan, stop, work, Can, Possible, IsRun}
-use Rattle.plans.specs.Simulation.{WellFormed, Meets, EndsIn, Holds, Simulation, Kept, Rank}
+use Rattle.plans.specs.Plans.{Plan, stop, work, Can, Possible}
+use Rattle.plans.specs.Simulation.{WellFormed, Simulation, Kept}
 use Rattle.plans.specs.Flags.{task_at}
-use Rattle.costs.specs.Costs.{Model, Laws, WeakLaws, Sized, Le, cost}
-use Rattle.search.specs.Answers.{Costs}
+use Rattle.costs.specs.Costs.{WeakLaws, Sized, Le, cost}
 use Rattle.search.proofs.Runs.{costs_sized, stop_costs, has_cost, after, works_kept}
 use Rattle.solver.specs.declared.Entry.{Entry}
 use Rattle.solver.specs.declared.Entry.TheVariants.{None as Nothing, There, Work}
-use Rattle.solver.specs.Policy.{World, Safe, Price, Begins, Best, Right, kept_set, Solved}
+use Rattle.solver.specs.Policy.{World, Safe, Price, Best, Right, kept_set, Solved}
 use Rattle.histories.specs.Promise.{Inside, LeastInSimulations}
 use Rattle.histories.proofs.Basics.{was_true, is_true, and_true, true_and, eq_true}
 

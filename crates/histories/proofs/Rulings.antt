@@ -1,15 +1,14 @@
 -- What it says that no rule refuses a call, and what it takes.
-use Rattle.std.proofs.Common.{◌≡◌, ℕ, ◌<◌, Bool, true, false, not, ◌&&◌, T, eqb, ltb, ◌⊎◌, List, [], ◌∷◌, length, is_some, Some, None, Option, sym, refl, ap, ◌∙◌, subst, inl, inr, true≢false, arith, eqb→eq, ltb→lt, lt→ltb}
+use Rattle.std.proofs.Common.{◌≡◌, ℕ, ◌<◌, Bool, true, false, not, T, eqb, ltb, length, is_some, Some, None, Option, refl, ap, ◌∙◌, subst, true≢false, arith, eqb→eq, ltb→lt, lt→ltb}
 use mathlib.Core.Bool.{false≢true, and-eq-true_iff}
 use lib.Dec.{eqb_refl}
 use Rattle.solver.specs.declared.Entry.{Entry}
 use Rattle.solver.specs.declared.Entry.TheVariants.{None as Nothing, There, Work}
-use Rattle.histories.specs.declared.Command.{Command}
 use Rattle.histories.specs.declared.Command.TheVariants.{Quote, Ask, Step, Close}
 use Rattle.plans.specs.Flags.{task_at}
 use Rattle.solver.specs.Policy.{World}
-use Rattle.histories.specs.Calls.{At, Rule, rule, refusal, offered, placed, entry_at, is_nothing, is_there, stuck, is_out, rules, Passes}
-use Rattle.histories.proofs.Basics.{was_true, is_true, not_false, some_none, passes_clear, clear_passes}
+use Rattle.histories.specs.Calls.{At, offered, placed, entry_at, is_nothing, is_there, stuck, is_out, rules, Passes}
+use Rattle.histories.proofs.Basics.{was_true, is_true, not_false, passes_clear, clear_passes}
 
 pub offer_is : (w : World) (s q : ℕ) → offered w s q ≡ true → (q < length w.domain.tasks) × ((task_at w.domain q).from ≡ s)
 offer_is w s q e =

@@ -1,5 +1,5 @@
 -- Which port models are ports.
-use Rattle.std.specs.Prelude.{ℕ, ◌<◌, ◌≤◌, length}
+use Rattle.std.specs.Prelude.{◌<◌, ◌≤◌, length}
 use Rattle.port.specs.Limits.{In, Marked, Rise, MovesExist, MovesRise, TextOk}
 use Rattle.port.specs.Model.{Model, RequestModel}
 

@@ -7,7 +7,7 @@ use Rattle.port.specs.declared.Header.{Header}
 use Rattle.port.specs.declared.Move.{Move}
 use Rattle.port.specs.Model.{Model, RequestModel}
 use Rattle.faults.specs.declared.layers.PortFault.TheVariants.{Start}
-use Rattle.reading.specs.Reading.{Step, got, fault, and_then, byte, bytes, number, field, minutes, text_length, whole_text, judged, text, same, both, rises, low_limit, high_limit, present, condition, move, request, follows, room, none, Head, head, body, entry, opening, count, start_stage, heading, Entry, condition_entry, move_entry, request_entry, add, empty, held, refused, finish, records, reading, EntrySized}
+use Rattle.reading.specs.Reading.{Step, got, fault, and_then, byte, bytes, number, field, minutes, text_length, whole_text, judged, text, both, rises, low_limit, high_limit, present, condition, move, request, follows, room, none, Head, head, body, entry, opening, count, start_stage, heading, Entry, condition_entry, move_entry, request_entry, add, empty, held, refused, finish, records, reading, EntrySized}
 use Rattle.formula.specs.Truth.{is_whole}
 use Rattle.port.specs.Limits.{In, no_move, Marked, Rise, key, MovesExist, MovesRise, TextOk}
 use Rattle.port.specs.Valid.{Valid}

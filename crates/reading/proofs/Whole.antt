@@ -1,13 +1,11 @@
 -- Every reader leaves no more bytes than it was given, and the records one after another.
-use Rattle.std.proofs.Common.{◌≡◌, ℕ, zero, suc, ◌+◌, ◌-◌, ◌*◌, ◌<◌, ◌≤◌, Bool, true, false, cond, eqb, ltb, List, [], ◌∷◌, ◌++◌, length, take, drop, sym, refl, ap, ◌∙◌, subst, arith, length-drop}
-use mathlib.Core.List as List
+use Rattle.std.proofs.Common.{◌≡◌, ℕ, zero, suc, ◌+◌, ◌-◌, ◌*◌, ◌<◌, ◌≤◌, Bool, true, false, cond, eqb, ltb, List, [], ◌∷◌, length, take, drop, sym, refl, ap, ◌∙◌, subst, arith, length-drop}
 use Rattle.formula.specs.Grammar.{Verdict, whole, stuck, verdict}
 use Rattle.port.specs.declared.Header.{Header}
-use Rattle.port.specs.declared.Move.{Move}
-use Rattle.port.specs.Model.{Model, RequestModel}
+use Rattle.port.specs.Model.{Model}
 use Rattle.faults.specs.declared.layers.PortFault.{PortFault}
 use Rattle.faults.specs.declared.layers.PortFault.TheVariants.{Start}
-use Rattle.reading.specs.Reading.{Step, got, fault, and_then, provided, byte, bytes, number, field, minutes, text_length, whole_text, judged, text, condition, move, request, Head, admitted, head, body, entry, opening, count, start_stage, heading, Entry, condition_entry, move_entry, request_entry, add, empty, held, refused, finish, records, reading}
+use Rattle.reading.specs.Reading.{Step, got, fault, and_then, provided, byte, bytes, number, field, minutes, text_length, whole_text, judged, text, condition, move, request, Head, admitted, head, body, entry, opening, count, start_stage, heading, Entry, add, empty, held, refused, finish, records, reading}
 
 -- no more than n bytes are left
 abbrev Below : {V : Type 0} → ℕ → Step V → Type 0

@@ -1,10 +1,10 @@
 -- Rows that say from where each task can be served.
-use Rattle.std.proofs.Common.{◌≡◌, ℕ, suc, ◌+◌, ◌-◌, ◌*◌, ◌<◌, ◌≤◌, Bool, true, false, ◌&&◌, ◌⊎◌, ◌↔◌, List, length, get_or, take, drop, vec_items, sym, refl, ap, ◌∙◌, subst, ap₂, inl, inr, arith}
+use Rattle.std.proofs.Common.{◌≡◌, ℕ, ◌+◌, ◌-◌, ◌*◌, ◌<◌, ◌≤◌, Bool, true, false, ◌&&◌, ◌↔◌, List, length, get_or, take, drop, vec_items, sym, refl, ap, ◌∙◌, subst, arith}
 use mathlib.Core.Bool.{false≢true}
 use native.Mathlib.Decide.{ℕ_discrete, dec_lt}
 use Rattle.std.proofs.lemmas.List.{get_or_read}
 use Rattle.port.specs.declared.Move.{Move}
-use Rattle.plans.specs.Plans.{Plan, stop, work}
+use Rattle.plans.specs.Plans.{stop, work}
 use Rattle.plans.specs.Simulation.{Domain, Task, WellFormed}
 use Rattle.plans.specs.Reach.{Attainable, aim, reached}
 use Rattle.plans.specs.Flags.{has, pairs, task_at, no_task}

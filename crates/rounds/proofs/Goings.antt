@@ -1,10 +1,8 @@
 -- From round to round.
-use Rattle.std.proofs.Common.{◌≡◌, ℕ, zero, suc, ◌+◌, ◌*◌, ◌<◌, ◌≤◌, Bool, true, false, not, ◌&&◌, ◌||◌, List, length, get_or, replicate, sym, refl, ap, ◌∙◌, subst, ap₂, true≢false, arith}
-use mathlib.Core.Bool.{false≢true}
+use Rattle.std.proofs.Common.{◌≡◌, ℕ, suc, ◌+◌, ◌*◌, ◌<◌, Bool, true, false, ◌&&◌, List, length, get_or, replicate, sym, refl, ap, ◌∙◌, true≢false, arith}
 use Rattle.std.proofs.lemmas.List.{ext_get_or, length-replicate, get_or-replicate}
-use Rattle.plans.specs.Simulation.{Domain, WellFormed, InRange, Kept, Rank}
-use Rattle.plans.specs.Reach.{left}
-use Rattle.plans.specs.Flags.{Dropped, Judged, all_served, bit, every, has, pairs, raised, rank_at, task_at}
+use Rattle.plans.specs.Simulation.{Domain, WellFormed, InRange}
+use Rattle.plans.specs.Flags.{Dropped, all_served, has, pairs, task_at}
 use Rattle.plans.proofs.Decide.{aim_same}
 use Rattle.plans.proofs.Flags.{bit_true, has_within, raised_most, row_within}
 use Rattle.plans.proofs.Rounds.{drop_zeros, judge_done, judge_start, judge_turn, judged_zeros, round_left}

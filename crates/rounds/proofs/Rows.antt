@@ -1,5 +1,5 @@
 -- Rows of flags, one after another.
-use Rattle.std.proofs.Common.{◌≡◌, ℕ, zero, suc, ◌+◌, ◌<◌, ◌≤◌, Bool, List, [], ◌∷◌, ◌++◌, map, length, get_or, take, sym, refl, ap, ◌∙◌, subst, inl, inr, append_assoc, arith}
+use Rattle.std.proofs.Common.{◌≡◌, ℕ, zero, suc, ◌+◌, ◌<◌, ◌≤◌, List, [], ◌∷◌, ◌++◌, map, length, get_or, take, sym, refl, ap, ◌∙◌, subst, inl, inr, append_assoc, arith}
 use Rattle.port.specs.Limits.{In}
 use Rattle.std.proofs.lemmas.List.{map_more, take_all, take_more, flat_map_more, get_or-map, length-map}
 use Rattle.std.specs.List.{flat_map}

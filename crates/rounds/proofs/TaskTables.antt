@@ -1,14 +1,14 @@
 -- The tables of a port tell the tasks of its domain.
-use Rattle.std.proofs.Common.{◌≡◌, ℕ, zero, suc, ◌+◌, ◌-◌, ◌*◌, ◌<◌, ◌≤◌, Bool, false, List, [], ◌∷◌, ◌++◌, map, length, get_or, vec_items, vec_len, sym, refl, ap, ◌∙◌, suc-mul, zero-mul, arith, length-append}
+use Rattle.std.proofs.Common.{◌≡◌, ℕ, zero, suc, ◌+◌, ◌-◌, ◌*◌, ◌<◌, ◌≤◌, Bool, false, List, [], ◌∷◌, ◌++◌, length, get_or, vec_items, sym, ap, ◌∙◌, suc-mul, zero-mul, arith, length-append}
 use Rattle.std.proofs.lemmas.List.{get_or-map, length-map, get_or_append_left, get_or-append_right}
 use Rattle.std.specs.List.{flat_map}
 use Rattle.formula.specs.Truth.{truth}
 use Rattle.port.specs.Model.{Model, RequestModel}
 use Rattle.plans.specs.Domains.{domain_of, task_of, holds_in}
-use Rattle.plans.specs.Simulation.{Domain, Task}
-use Rattle.plans.specs.Flags.{has, pairs, task_at, no_task}
+use Rattle.plans.specs.Simulation.{Domain}
+use Rattle.plans.specs.Flags.{pairs, task_at, no_task}
 use Rattle.rounds.specs.Legs.{leg_at, no_leg}
-use Rattle.rounds.specs.Tables.{TasksOf, leg_of, truths, keep_row, reach_row}
+use Rattle.rounds.specs.Tables.{TasksOf, leg_of, truths}
 use Rattle.rounds.specs.Rounds.{TasksFor}
 use Rattle.rounds.specs.Verdicts.{KeepRows}
 use Rattle.rounds.specs.declared.tasks.Tasks.{Tasks}

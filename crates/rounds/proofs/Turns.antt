@@ -1,5 +1,5 @@
 -- The turns of the requests in a round.
-use Rattle.std.proofs.Common.{◌≡◌, ℕ, ◌+◌, ◌*◌, ◌<◌, ◌≤◌, Bool, true, false, ◌&&◌, ◌↔◌, List, length, sym, ap, ◌∙◌, subst, arith}
+use Rattle.std.proofs.Common.{◌≡◌, ℕ, ◌+◌, ◌*◌, ◌<◌, Bool, true, ◌&&◌, ◌↔◌, List, length, sym, ap, ◌∙◌, subst, arith}
 use mathlib.Core.Bool.{and-eq-true_iff}
 use native.Mathlib.Decide.{ℕ_discrete}
 use Rattle.plans.specs.Simulation.{Domain, WellFormed, Kept}

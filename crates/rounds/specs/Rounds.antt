@@ -2,7 +2,7 @@
 use Rattle.std.specs.Prelude.{◌≡◌, ℕ, ◌+◌, ◌*◌, ◌<◌, ◌≤◌, min, Bool, true, false, ◌↔◌, List, length, vec_items, vec_len, slice_index}
 use Rattle.port.specs.Model.{model_of}
 use Rattle.plans.specs.Domains.{domain_of}
-use Rattle.plans.specs.Simulation.{Domain, Task, InRange, Kept, Rank}
+use Rattle.plans.specs.Simulation.{Domain, InRange, Kept, Rank}
 use Rattle.plans.specs.Reach.{aim, reached}
 use Rattle.plans.specs.Flags.{Judged, bit, has, pairs, raised, rank_at, task_at}
 use Rattle.index.specs.Indexed.{port_of}

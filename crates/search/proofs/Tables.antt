@@ -1,10 +1,8 @@
 -- Tables of costs.
-use Rattle.std.proofs.Common.{◌≡◌, ℕ, zero, suc, ◌-◌, ◌<◌, ◌≤◌, List, [], ◌∷◌, length, get_or, set, Some, None, Option, sym, refl, ap, subst, arith}
-use Rattle.costs.specs.Costs.{Model, Sized}
+use Rattle.std.proofs.Common.{◌≡◌, ℕ, zero, suc, ◌<◌, ◌≤◌, List, [], ◌∷◌, length, get_or, set, Some, None, Option, sym, refl, ap, arith}
 use Rattle.costs.specs.Compare.{shown}
-use Rattle.tables.specs.Tables.{looked}
 use Rattle.search.specs.Labels.{done}
-use Rattle.tables.proofs.Options.{some_inj, none_some, AllSized}
+use Rattle.tables.proofs.Options.{some_inj, none_some}
 
 pub shown_none : {A : Type 0} (e : A → List ℕ) (x : Option A) → shown e x ≡ None → x ≡ None
 shown_none e None q = refl

@@ -1,5 +1,5 @@
 -- A whole sheet, from what was read of its header and of its records.
-use Rattle.std.proofs.Common.{◌≡◌, ℕ, ◌≤◌, List, length, Ok, Err, Result, sym, ap, ◌∙◌, subst, arith}
+use Rattle.std.proofs.Common.{◌≡◌, ℕ, ◌≤◌, List, length, Ok, Result, sym, ap, ◌∙◌, subst, arith}
 use Rattle.faults.specs.declared.errors.LoadError.{LoadError}
 use Rattle.faults.specs.declared.errors.LoadError.TheVariants.{Fault, Memory}
 use Rattle.port.specs.declared.Header.{Header}

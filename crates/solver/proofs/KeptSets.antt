@@ -1,7 +1,7 @@
 -- The pairs of rank 0 are the largest simulation.
-use Rattle.std.proofs.Common.{◌≡◌, ℕ, zero, suc, ◌<◌, Bool, true, false, ◌&&◌, eqb, ltb, sym, refl, ap, ◌∙◌, ap₂, true≢false, arith, ltb-true, lt-ltb, eq-eqb, eqb-true}
+use Rattle.std.proofs.Common.{◌≡◌, ℕ, zero, suc, Bool, true, false, ◌&&◌, eqb, ltb, refl, ap₂, arith, ltb-true, lt-ltb, eq-eqb, eqb-true}
 use mathlib.Core.Bool.{false≢true}
-use Rattle.plans.specs.Simulation.{Domain, Holds, InRange, Kept, Rank, Serves, Simulation}
+use Rattle.plans.specs.Simulation.{Holds, InRange, Kept, Rank, Simulation}
 use Rattle.plans.proofs.Serve.{serves_monotone}
 use Rattle.solver.specs.Policy.{World, kept_set}
 

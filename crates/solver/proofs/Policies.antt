@@ -1,13 +1,11 @@
 -- What a search answers is what a policy promises.
-use Rattle.std.proofs.Common.{◌≡◌, ℕ, ◌<◌, Bool, true, ◌↔◌, List, [], ◌∷◌, length, sym, refl, ap, ◌∙◌, subst, true≢false}
-use Rattle.port.specs.Limits.{In}
+use Rattle.std.proofs.Common.{◌≡◌, ℕ, ◌<◌, Bool, true, ◌↔◌, List, [], sym, refl, ◌∙◌, true≢false}
 use Rattle.port.specs.declared.Move.{Move}
-use Rattle.plans.specs.Plans.{Plan, stop, work, Within, IsRun, end, Attains}
-use Rattle.plans.specs.Simulation.{Domain, Task, WellFormed, Meets, EndsIn, Kept}
+use Rattle.plans.specs.Plans.{Plan, stop, work, IsRun, end, Attains}
+use Rattle.plans.specs.Simulation.{WellFormed, Kept}
 use Rattle.plans.specs.Flags.{task_at}
 use Rattle.plans.proofs.Attain.{run_moves, stop_attains}
 use Rattle.plans.proofs.Serve.{end_within}
-use Rattle.costs.specs.Costs.{Model}
 use Rattle.search.specs.Answers.{Answer}
 use Rattle.search.specs.declared.Choice.{Choice}
 use Rattle.search.specs.declared.Choice.TheVariants.{None, There, Work}

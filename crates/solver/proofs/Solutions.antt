@@ -1,14 +1,14 @@
 -- Choices and ranks that are written to the front of buffers are a policy with its ranks.
-use Rattle.std.proofs.Common.{◌≡◌, ℕ, ◌+◌, ◌*◌, ◌<◌, ◌≤◌, Bool, true, ◌↔◌, List, map, length, get_or, take, drop, vec_items, vec_len, sym, refl, ap, ◌∙◌, subst, ap₂, arith}
+use Rattle.std.proofs.Common.{◌≡◌, ℕ, ◌+◌, ◌*◌, ◌<◌, List, map, length, get_or, take, vec_items, vec_len, sym, refl, ap, ◌∙◌, subst, ap₂, arith}
 use lib.ListN.{length-map}
 use Rattle.std.proofs.lemmas.List.{get_or-map, get_or-take}
-use Rattle.plans.specs.Simulation.{Domain, WellFormed, InRange, Kept, Rank}
-use Rattle.plans.specs.Flags.{pairs, rank_at, task_at}
+use Rattle.plans.specs.Simulation.{Domain, WellFormed, InRange, Rank}
+use Rattle.plans.specs.Flags.{rank_at}
 use Rattle.plans.proofs.Flags.{row_within}
 use Rattle.costs.specs.Costs.{Model}
 use Rattle.search.specs.declared.Choice.{Choice}
 use Rattle.search.specs.declared.Choice.TheVariants.{None}
-use Rattle.solver.specs.Choices.{Chosen, entry_of, exact_of}
+use Rattle.solver.specs.Choices.{entry_of, exact_of}
 use Rattle.solver.specs.Policy.{World, Solved, Right, world_of}
 use Rattle.solver.specs.Solving.{Worked, pairs_of, places_of, start_of}
 use Rattle.port.specs.Model.{model_of, request_model}

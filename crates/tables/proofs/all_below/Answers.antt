@@ -1,4 +1,4 @@
-use Rattle.std.proofs.Common.{◌≡◌, ◌<◌, true, Some, sym, refl, ◌∙◌, true≢false, arith}
+use Rattle.std.proofs.Common.{◌≡◌, true, Some, sym, refl, ◌∙◌, true≢false, arith}
 use Rattle.port.specs.Limits.{no_move}
 use Rattle.costs.specs.Compare.{under_of}
 use Rattle.tables.specs.Tables.{looked}

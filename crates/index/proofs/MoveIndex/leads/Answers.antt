@@ -1,4 +1,4 @@
-use Rattle.std.proofs.Common.{◌≡◌, ◌<◌, sym, ◌∙◌, subst, true≢false}
+use Rattle.std.proofs.Common.{◌<◌, sym, ◌∙◌, subst, true≢false}
 use Rattle.index.specs.Indexed.{count_of}
 use Rattle.index.proofs.Bounds.{index_within}
 use Rattle.index.proofs.MoveIndex.leads.Goals as goal

@@ -1,4 +1,4 @@
-use Rattle.std.proofs.Common.{◌≡◌, ℕ, ◌+◌, ◌<◌, Bool, List, length, sym, ◌∙◌, arith}
+use Rattle.std.proofs.Common.{ℕ, ◌<◌, Bool, List, length, sym, ◌∙◌, arith}
 use Rattle.rounds.proofs.Writes.{settled_past, settled_drop}
 use Rattle.rounds.proofs.flags.drop_lacking.Goals as goal
 use Rattle.rounds.proofs.flags.drop_lacking.Goals.{then-drops, else-drops}

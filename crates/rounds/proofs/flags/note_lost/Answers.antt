@@ -1,4 +1,4 @@
-use Rattle.std.proofs.Common.{ℕ, ◌<◌, length, arith}
+use Rattle.std.proofs.Common.{◌<◌, length, arith}
 use Rattle.plans.proofs.Flags.{row_within}
 use Rattle.rounds.proofs.Writes.{lost_more}
 use Rattle.rounds.proofs.flags.note_lost.Goals as goal

@@ -1,4 +1,4 @@
-use Rattle.std.proofs.Common.{◌≡◌, vec_items, sym, ◌∙◌, subst}
+use Rattle.std.proofs.Common.{vec_items, sym, subst}
 use Rattle.port.specs.Model.{model_of}
 use Rattle.port.specs.declared.held.Port.{Port}
 use Rattle.plans.specs.Domains.{domain_of}

@@ -1,8 +1,8 @@
-use Rattle.std.proofs.Common.{◌≡◌, ℕ, suc, ◌+◌, ◌*◌, ◌<◌, ◌≤◌, Bool, true, false, ◌&&◌, List, length, sym, ap, ◌∙◌, subst, ap₂, add-one, arith}
+use Rattle.std.proofs.Common.{◌≡◌, ℕ, suc, ◌<◌, Bool, true, false, List, length, ◌∙◌, subst, add-one, arith}
 use Rattle.plans.specs.Simulation.{Domain, WellFormed}
 use Rattle.plans.proofs.Formed.{port_formed}
 use Rattle.index.specs.Indexed.{port_of}
-use Rattle.plans.specs.Flags.{Dropped, has, pairs, task_at}
+use Rattle.plans.specs.Flags.{Dropped, has, pairs}
 use Rattle.rounds.specs.Rounds.{Going, domain_in}
 use Rattle.rounds.proofs.Goings.{going_turn, going_done}
 use Rattle.rounds.proofs.judging.run_rounds.Goals as goal

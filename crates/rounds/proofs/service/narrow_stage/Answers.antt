@@ -1,4 +1,4 @@
-use Rattle.std.proofs.Common.{◌≡◌, ℕ, length, ◌∙◌, arith}
+use Rattle.std.proofs.Common.{◌≡◌, length, ◌∙◌, arith}
 use Rattle.plans.specs.Simulation.{Domain, WellFormed}
 use Rattle.plans.specs.Flags.{task_at}
 use Rattle.plans.proofs.Formed.{port_formed}

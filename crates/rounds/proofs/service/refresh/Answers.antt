@@ -1,13 +1,11 @@
-use Rattle.std.proofs.Common.{◌≡◌, ℕ, ◌*◌, ◌<◌, Bool, List, length, sym, ap, ◌∙◌, subst, arith}
+use Rattle.std.proofs.Common.{◌≡◌, ℕ, ◌*◌, ◌<◌, length, sym, ◌∙◌, subst, arith}
 use Rattle.std.proofs.lemmas.Result.{IfOk-weaker}
 use Rattle.plans.specs.Simulation.{Domain, WellFormed}
-use Rattle.plans.specs.Flags.{has}
 use Rattle.plans.proofs.Formed.{port_formed}
 use Rattle.index.specs.Indexed.{count_of, port_of}
 use Rattle.rounds.specs.Rounds.{domain_in}
 use Rattle.rounds.specs.Rows.{Besides}
-use Rattle.rounds.proofs.Freshness.{leg_to, leg_staged, row_fits, served_row}
-use Rattle.rounds.proofs.Turns.{besides_at}
+use Rattle.rounds.proofs.Freshness.{leg_staged, row_fits, served_row}
 use Rattle.rounds.proofs.service.refresh.Goals as goal
 
 pub bounds-lost-index : goal.bounds-lost-index

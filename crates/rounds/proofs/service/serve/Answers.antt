@@ -1,4 +1,4 @@
-use Rattle.std.proofs.Common.{◌≡◌, ℕ, ◌+◌, ◌<◌, Bool, length, get_or, vec_items, sym, ap, ◌∙◌, subst, arith}
+use Rattle.std.proofs.Common.{◌≡◌, ℕ, ◌<◌, length, get_or, vec_items, sym, ap, ◌∙◌, subst}
 use Rattle.index.specs.Indexed.{count_of, moves_of}
 use Rattle.costs.specs.Models.{count_list, moves_model}
 use Rattle.search.specs.declared.Choice.TheVariants.{None}

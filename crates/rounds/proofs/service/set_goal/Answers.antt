@@ -1,4 +1,4 @@
-use Rattle.std.proofs.Common.{◌≡◌, ℕ, length, vec_len, ◌∙◌, arith}
+use Rattle.std.proofs.Common.{◌≡◌, length, vec_len, ◌∙◌, arith}
 use Rattle.plans.specs.Simulation.{Domain, WellFormed}
 use Rattle.plans.proofs.Formed.{port_formed}
 use Rattle.index.specs.Indexed.{port_of}

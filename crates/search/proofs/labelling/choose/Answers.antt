@@ -1,4 +1,4 @@
-use Rattle.std.proofs.Common.{◌≡◌, ◌<◌, Some, None, sym, ap, ◌∙◌, subst}
+use Rattle.std.proofs.Common.{◌≡◌, Some, sym, ap, ◌∙◌, subst}
 use Rattle.plans.specs.Plans.{Can}
 use Rattle.search.specs.Labels.{After, Worst}
 use Rattle.tables.specs.Tables.{looked}

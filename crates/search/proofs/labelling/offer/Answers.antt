@@ -1,4 +1,4 @@
-use Rattle.std.proofs.Common.{◌<◌, ◌≤◌, sym, subst}
+use Rattle.std.proofs.Common.{◌≤◌, sym, subst}
 use Rattle.costs.specs.Compare.{shown}
 use Rattle.tables.specs.Tables.{looked}
 use Rattle.plans.specs.Flags.{has}

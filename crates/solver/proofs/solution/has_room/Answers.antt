@@ -1,4 +1,4 @@
-use Rattle.std.proofs.Common.{◌≡◌, ℕ, ◌*◌, Bool, ◌&&◌, leb, ap, ◌∙◌, ap₂}
+use Rattle.std.proofs.Common.{◌≡◌, ℕ, ◌*◌, ◌&&◌, leb, ap, ◌∙◌, ap₂}
 use Rattle.port.specs.Model.{model_of}
 use Rattle.plans.specs.Domains.{domain_of}
 use Rattle.solver.specs.Solving.{pairs_of, places_of}

@@ -1,4 +1,4 @@
-use Rattle.std.proofs.Common.{◌≡◌, Bool, List, length, vec_items, sym, ap, ◌∙◌, subst}
+use Rattle.std.proofs.Common.{Bool, List, length, vec_items, sym, ap, ◌∙◌, subst}
 use Rattle.port.specs.Model.{model_of}
 use Rattle.port.specs.declared.held.Port.{Port}
 use Rattle.plans.specs.Domains.{domain_of}

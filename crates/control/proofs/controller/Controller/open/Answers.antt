@@ -1,5 +1,5 @@
 use Rattle.std.proofs.Common.{sym, refl, ◌∙◌}
-use Rattle.control.proofs.Opened.{refused_short, refused_nowhere, refused_dropped, accepted, promises, opening}
+use Rattle.control.proofs.Opened.{refused_short, refused_dropped, accepted, promises, opening}
 use Rattle.control.proofs.controller.Controller.open.Goals as goal
 
 pub returns-then-not-has_tables : goal.returns-then-not-has_tables

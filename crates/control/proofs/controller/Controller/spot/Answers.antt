@@ -1,4 +1,4 @@
-use Rattle.std.proofs.Common.{◌≡◌, sym, ◌∙◌}
+use Rattle.std.proofs.Common.{sym, ◌∙◌}
 use Rattle.port.specs.Model.{model_of}
 use Rattle.locks.proofs.Standing.{place_is}
 use Rattle.control.proofs.controller.Controller.spot.Goals as goal
