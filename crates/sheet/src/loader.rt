@@ -1,10 +1,10 @@
 // Loads a sheet into a port.
-ghost use Rattle.std.specs.Prelude.{◌≡◌, ℕ, ◌≤◌, length, IfOk, MatchResult, OnErr, OnOk};
+ghost use Rattle.std.specs.Prelude.{◌≡◌, ℕ, ◌≤◌, length, OnOk};
 ghost use Rattle.port.specs.Model.{Model, model_of};
 ghost use Rattle.port.specs.Valid.{Valid};
 ghost use Rattle.records.specs.Drafts.{draft_model};
 ghost use Rattle.reading.specs.Theorems.{Grammatical, Only};
-ghost use Rattle.sheet.specs.Loading.{Loaded, PortTold, RecordsRead, Told, Wanting};
+ghost use Rattle.sheet.specs.Loading.{Holds, Loaded, PortTold, RecordsRead, Told};
 ghost use Rattle.reading.specs.Reading.{records};
 ghost use Rattle.reading.specs.SheetOf.{sheet_of};
 
@@ -53,11 +53,7 @@ fn read_draft(heap: Global, sheet: &[u8]) -> Result<Draft, LoadError>
 
 // The port that a sheet tells.
 fn read_port(heap: Global, sheet: &[u8]) -> Result<Port, LoadError>
-    ensures read { PortTold sheet.now result }
-    ensures written { IfOk result (λ p. Valid (model_of p) × (sheet.now ≡ sheet_of (model_of p))) }
-    ensures only { IfOk result (λ p. Only sheet.now (model_of p)) }
-    ensures accepts { (m : Model) → Valid m → sheet.now ≡ sheet_of m → MatchResult result (λ p. model_of p ≡ m) Wanting }
-    ensures words { Grammatical }
+    ensures { PortTold sheet.now result }
 {
     let draft = read_draft(heap, sheet)?;
     Ok(seal(draft))
@@ -66,18 +62,13 @@ fn read_port(heap: Global, sheet: &[u8]) -> Result<Port, LoadError>
 // Puts the sheet's port in place of the one held. A sheet that is refused leaves that one as it was,
 // and so does want of memory.
 pub fn load(port: &mut Port, heap: Global, sheet: &[u8]) -> Result<(), LoadError>
-    ensures read { Loaded sheet.now port.new result }
-    ensures kept { OnErr result (port.new ≡ port.old) }
+    ensures read { Loaded sheet.now port.old port.new result }
     ensures written { OnOk result (Valid (model_of port.new) × (sheet.now ≡ sheet_of (model_of port.new))) }
     ensures only { OnOk result (Only sheet.now (model_of port.new)) }
-    ensures accepts { (m : Model) → Valid m → sheet.now ≡ sheet_of m → MatchResult result (λ _. model_of port.new ≡ m) Wanting }
+    ensures accepts { (m : Model) → Valid m → sheet.now ≡ sheet_of m → Holds m port.new result }
     ensures words { Grammatical }
 {
-    match read_port(heap, sheet) {
-        Ok(read) => {
-            *port = read;
-            Ok(())
-        }
-        Err(error) => Err(error),
-    }
+    let read = read_port(heap, sheet)?;
+    *port = read;
+    Ok(())
 }
