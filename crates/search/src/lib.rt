@@ -3,6 +3,8 @@
 
 mod labelling;
 
+pub use costs::{CostModel, Count, Minutes, MoveCount, Named, Time};
+pub use index::MoveIndex;
 pub use labelling::search;
 
 // What to do in a condition: there is no plan, the goal holds, or work an operation at this cost.
