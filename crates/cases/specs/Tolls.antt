@@ -16,6 +16,9 @@ toll_model = record {
   within = λ a b. nat_le (slice_index a 0) (slice_index b 0);
 }
 
+pub fare_sized : (f : Fare) → length (fare_list f) ≡ toll_model.columns
+fare_sized f = refl
+
 one : (a : List ℕ) → length a ≡ 1 → a ≡ slice_index a 0 ∷ []
 one [] e = absurd (omega arith)
 one (x ∷ []) e = refl

@@ -1,9 +1,8 @@
 // A cost model that is written only here: a run costs its minutes and one for each of its moves.
-ghost use Rattle.cases.specs.Tolls.{fare_list, toll_laws, toll_model};
+ghost use Rattle.cases.specs.Tolls.{fare_list, fare_sized, toll_laws, toll_model};
 ghost use Rattle.plans.specs.Domains.{domain_of};
 ghost use Rattle.port.specs.Model.{model_of};
 ghost use Rattle.solver.specs.Solving.{Outcome, start_of};
-ghost use Rattle.std.proofs.Common.{rules};
 
 use costs::{CostModel, Named};
 use port::{Move, Port};
@@ -32,7 +31,7 @@ impl CostModel for Toll {
 
     ghost exact = { fare_list };
 
-    ghost sized = { Prim.search rules };
+    ghost sized = { fare_sized };
 
     fn zero() -> Fare {
         Fare { total: 0 }

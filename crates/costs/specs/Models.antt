@@ -38,6 +38,12 @@ minutes_model = record {
   within = λ a b. lexb (slice_index a 0) (slice_index a 1) (slice_index b 0) (slice_index b 1);
 }
 
+pub count_sized : (c : Count) → length (count_list c) ≡ moves_model.columns
+count_sized c = refl
+
+pub time_sized : (t : Time) → length (time_list t) ≡ minutes_model.columns
+time_sized t = refl
+
 one : (a : List ℕ) → length a ≡ 1 → a ≡ slice_index a 0 ∷ []
 one [] e = absurd (omega arith)
 one (x ∷ []) e = refl

@@ -1,7 +1,6 @@
 // The two cost models that there are.
 ghost use Rattle.std.specs.Prelude.{◌≡◌, ◌+◌, ◌≤◌};
-ghost use Rattle.costs.specs.Models.{count_list, minutes_laws, minutes_model, moves_laws, moves_model, time_list};
-ghost use Rattle.std.proofs.Common.{rules};
+ghost use Rattle.costs.specs.Models.{count_list, count_sized, minutes_laws, minutes_model, moves_laws, moves_model, time_list, time_sized};
 
 use crate::model::{CostModel, Named};
 use port::Move;
@@ -45,7 +44,7 @@ impl CostModel for MoveCount {
 
     ghost exact = { count_list };
 
-    ghost sized = { Prim.search rules };
+    ghost sized = { count_sized };
 
     fn zero() -> Count {
         Count { moves: 0 }
@@ -84,7 +83,7 @@ impl CostModel for Minutes {
 
     ghost exact = { time_list };
 
-    ghost sized = { Prim.search rules };
+    ghost sized = { time_sized };
 
     fn zero() -> Time {
         Time {

@@ -35,21 +35,21 @@ formula_layer f = 2
 -- Layer 3, records; a byte's or a formula's fault keeps its own number, place and layer.
 abbrev pub record_number : RecordFault → ℕ
 record_number (Byte b) = byte_number b
-record_number (Formula f) = formula_number f
+record_number (Formula f) = 10
 record_number (Kind p) = 4
 record_number (Map p) = 5
 record_number (Absent p) = 6
 
 abbrev pub record_place : RecordFault → ℕ
 record_place (Byte b) = byte_place b
-record_place (Formula f) = formula_place f
+record_place (Formula f) = f.place
 record_place (Kind p) = p
 record_place (Map p) = p
 record_place (Absent p) = p
 
 abbrev pub record_layer : RecordFault → ℕ
-record_layer (Byte b) = byte_layer b
-record_layer (Formula f) = formula_layer f
+record_layer (Byte b) = 1
+record_layer (Formula f) = 2
 record_layer (Kind p) = 3
 record_layer (Map p) = 3
 record_layer (Absent p) = 3
