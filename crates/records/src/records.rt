@@ -162,10 +162,10 @@ fn read_request<'a>(
 {
     let stages = draft.header.stages as usize;
     let marks = draft.header.marks;
-    let from = reader.next_field(head.first(), head.map_place, stages)?;
-    let to = reader.next_field(head.second(), head.map_place, stages)?;
-    let keep = reader.next_text(head.third(), marks)?;
-    let reach = reader.next_text(head.fourth(), marks)?;
+    let from = reader.next_field(head.has(0), head.map_place, stages)?;
+    let to = reader.next_field(head.has(1), head.map_place, stages)?;
+    let keep = reader.next_text(head.has(2), marks)?;
+    let reach = reader.next_text(head.has(3), marks)?;
     Ok(RequestAt {
         from,
         to,
