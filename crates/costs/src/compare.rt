@@ -57,7 +57,7 @@ pub fn comes_to<C: CostModel>(x: Option<C::Cost>, b: C::Cost) -> bool
 
 // The greater of a move joined onto a cost and the top so far.
 pub fn extend<C: CostModel>(m: &Move, c: C::Cost, top: Option<C::Cost>) -> C::Cost
-    ensures { Reached C.model 254 (C.exact c) → C.exact result ≡ topped C.model (C.model.join m.now (C.exact c)) (shown C.exact top) }
+    ensures { Reached C.model 255 (C.exact c) → C.exact result ≡ topped C.model (C.model.join m.now (C.exact c)) (shown C.exact top) }
 {
     higher::<C>(C::join(m, c), top)
 }

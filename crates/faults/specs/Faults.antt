@@ -1,6 +1,5 @@
 -- The number, the place and the layer of a fault, and what an error is printed as.
 use Rattle.std.specs.Prelude.{ℕ, List, ◌++◌, codes, decimal}
-use Rattle.formula.specs.declared.FormulaFault.{FormulaFault}
 use Rattle.faults.specs.declared.errors.LoadError.{LoadError}
 use Rattle.faults.specs.declared.errors.LoadError.TheVariants.{Fault, Memory}
 use Rattle.faults.specs.declared.layers.ByteFault.{ByteFault}
@@ -21,16 +20,6 @@ byte_place Opening = 0
 
 abbrev pub byte_layer : ByteFault → ℕ
 byte_layer b = 1
-
--- Layer 2, formulas: one fault.
-abbrev pub formula_number : FormulaFault → ℕ
-formula_number f = 10
-
-abbrev pub formula_place : FormulaFault → ℕ
-formula_place f = f.place
-
-abbrev pub formula_layer : FormulaFault → ℕ
-formula_layer f = 2
 
 -- Layer 3, records; a byte's or a formula's fault keeps its own number, place and layer.
 abbrev pub record_number : RecordFault → ℕ

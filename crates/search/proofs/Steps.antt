@@ -20,7 +20,7 @@ use Rattle.costs.proofs.Order.{reflexive, cost_sized}
 use Rattle.search.proofs.Runs.{worst_map, stop_attains, stop_costs, has_cost}
 use Rattle.tables.proofs.Options.{some_inj, none_some, looked_sized}
 use Rattle.search.proofs.Settle.{settle, later, stands, gone, best, no_plan, reached_more, widen}
-use Rattle.search.proofs.Tables.{shown_none, unshown, done_most, done_more, done_open, done_some}
+use Rattle.search.proofs.Tables.{unshown, done_most, done_more, done_some}
 
 -- ── moves ──
 
@@ -74,10 +74,6 @@ module _ {A : Type 0} (k : Model) (e : A → List ℕ) (moves : List Move) (keep
     λ c m h a. above c (omega arith) h a,
   )
 
--- while a condition is open, no cost is of more than 254 moves
-pub few_open : {A : Type 0} {k : Model} (e : A → List ℕ) (t : List (Option A)) (c : ℕ) → length t ≤ 256 → c < length t → looked e t c ≡ None → Few k e (done t - 1) t → Few k e 254 t
-few_open e t c small l q few d a p = let m = done_open t c l (shown_none e (get_or t c None) q) in widen (done t - 1) 254 (omega arith) (few d a p)
-
 module _ {A : Type 0} {k : Model} (laws : WeakLaws k) (e : A → List ℕ) (sized : (a : A) → Sized k (e a)) where
   -- ── the state ──
 
@@ -106,6 +102,9 @@ module _ {A : Type 0} {k : Model} (laws : WeakLaws k) (e : A → List ℕ) (size
 
     pub above_start : (t u : List (Option A)) → length t ≡ n → ((c : ℕ) → c < n → looked e t c ≡ start k goal c) → Above k n (looked e t) (looked e u)
     above_start t u l h c d f g m p q = subst (λ x. Le k x g) (started t l h c f p).1 (laws.least g (looked_sized k e sized u d g q))
+
+    pub few_all : n ≤ 256 → (t : List (Option A)) → length t ≡ n → Few k e (done t - 1) t → Few k e 255 t
+    few_all small t l few c a q = let m = done_most t in widen (done t - 1) 255 (omega arith) (few c a q)
 
     early_all : n ≤ 256 → (t : List (Option A)) → length t ≡ n → Early k e (done t - 2) t → Early k e 254 t
     early_all small t l early d f p c a q w = let m = done_most t in widen (done t - 2) 254 (omega arith) (early d f p c a q w)
@@ -219,9 +218,13 @@ module _ {A : Type 0} {k : Model} (laws : WeakLaws k) (e : A → List ℕ) (size
     settled small costs offers state none = record {
       sized = state.costs_sized;
       final = state.final;
+      few = few_all small costs state.costs_sized state.few;
       early = early_all small costs state.costs_sized state.early;
       closed = no_plan laws moves keep goal n within (looked e costs) (looked_sized k e sized costs) state.final.goals (looked e offers) state.offered (λ c l. none c (subst (λ m. c < m) (sym state.offers_sized) l));
     }
+
+    pub settled_early : (costs : List (Option A)) → Settled k e moves keep goal n costs → Early k e 255 costs
+    settled_early costs s d f p c a q w = widen 254 255 (omega arith) (s.early d f p c a q w)
 
     -- what is chosen by costs that are settled is the answer
     pub answered : (costs : List (Option A)) → Settled k e moves keep goal n costs → (c : ℕ) → c < n → (x : Choice A) → Picked k e moves (looked e costs) goal c x → Answer k e moves keep goal c x

@@ -39,6 +39,8 @@ pub record State {A : Type 0} (k : Model) (e : A → List ℕ) (moves : List Mov
 pub record Settled {A : Type 0} (k : Model) (e : A → List ℕ) (moves : List Move) (keep goal : ℕ → Bool) (n : ℕ) (costs : List (Option A)) : Type 0 where
   pub sized : length costs ≡ n
   pub final : Final k moves keep goal n (looked e costs)
+  pub few : Few k e 255 costs
+  -- only the costliest may be one of 255 moves
   pub early : Early k e 254 costs
   pub closed : (p : Plan) (c : ℕ) → c < n → looked e costs c ≡ None → Attains moves keep goal p c → ⊥
 

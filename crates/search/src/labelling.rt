@@ -1,10 +1,10 @@
 // The search: conditions become final in order of cost.
-ghost use Rattle.std.specs.Prelude.{◌≡◌, ℕ, ◌-◌, ◌<◌, true, length, IfOk, Some, None, Decides, slice_set};
+ghost use Rattle.std.specs.Prelude.{◌≡◌, ℕ, ◌<◌, true, length, IfOk, Some, None, Decides, slice_set};
 ghost use Rattle.search.specs.Groups.{GroupEnd, Lowest};
 ghost use Rattle.index.specs.Indexes.{Apart, Ordered};
 ghost use Rattle.costs.specs.Compare.{shown};
 ghost use Rattle.index.specs.Indexed.{count_of, moves_of};
-ghost use Rattle.search.specs.Labels.{After, By, Cheapest, Few, FewAfter, FewBelow, Greatest, Offered, Worst, done};
+ghost use Rattle.search.specs.Labels.{After, By, Cheapest, Few, FewAfter, FewBelow, Greatest, Offered, Worst};
 ghost use Rattle.tables.specs.Tables.{looked};
 ghost use Rattle.port.specs.Limits.{In};
 ghost use Rattle.plans.specs.Flags.{has};
@@ -20,7 +20,7 @@ use tables::{Label, all_below, cost_after, cost_at, least};
 
 // The greatest of the moves, each joined onto what its outcome costs, where there is one and each outcome has a cost.
 fn worst<C: CostModel>(moves: &[Move], costs: &[Option<C::Cost>]) -> Option<C::Cost>
-    requires { FewAfter C.model C.exact 254 costs.now moves.now }
+    requires { FewAfter C.model C.exact 255 costs.now moves.now }
     ensures { Greatest C.model (looked C.exact costs.now) moves.now (shown C.exact result) }
 {
     let mut top = None;
@@ -35,7 +35,7 @@ fn worst<C: CostModel>(moves: &[Move], costs: &[Option<C::Cost>]) -> Option<C::C
 
 // Whether the greatest of the moves, each joined onto what its outcome costs, is `cost`. Nothing is joined unless each outcome costs less.
 fn attains<C: CostModel>(moves: &[Move], costs: &[Option<C::Cost>], cost: C::Cost) -> bool
-    requires { FewBelow C.model C.exact 254 costs.now (C.exact cost) }
+    requires { FewBelow C.model C.exact 255 costs.now (C.exact cost) }
     ensures { Decides result (Worst C.model (After (looked C.exact costs.now)) (λ m. In m moves.now) (C.exact cost)) }
 {
     all_below::<C>(moves, costs, cost) && comes_to::<C>(worst::<C>(moves, costs), cost)
@@ -58,7 +58,7 @@ fn group_end(moves: &[Move], at: usize) -> usize
 // The least that an operation comes to, of moves in order of operation.
 fn cheapest<C: CostModel>(moves: &[Move], costs: &[Option<C::Cost>]) -> Option<C::Cost>
     requires ordered { Ordered moves.now }
-    requires few { Few C.model C.exact 254 costs.now }
+    requires few { Few C.model C.exact 255 costs.now }
     ensures { Cheapest C.model (looked C.exact costs.now) (By moves.now) (shown C.exact result) }
 {
     let mut low = None;
@@ -74,7 +74,7 @@ fn cheapest<C: CostModel>(moves: &[Move], costs: &[Option<C::Cost>]) -> Option<C
 // The lowest operation that comes to `cost`, of moves in order of operation.
 fn operation<C: CostModel>(moves: &[Move], costs: &[Option<C::Cost>], cost: C::Cost) -> Option<u8>
     requires ordered { Ordered moves.now }
-    requires few { FewBelow C.model C.exact 254 costs.now (C.exact cost) }
+    requires few { FewBelow C.model C.exact 255 costs.now (C.exact cost) }
     ensures { Lowest C.model (looked C.exact costs.now) moves.now (C.exact cost) result }
 {
     let mut at = 0;
@@ -113,7 +113,7 @@ fn offer<C: CostModel>(
     c: usize,
 ) -> Option<C::Cost>
     requires sized { length costs.now ≡ count_of index.now }
-    requires few { Few C.model C.exact (done costs.now - 1) costs.now }
+    requires few { Few C.model C.exact 255 costs.now }
     requires within { c < length costs.now }
     ensures { Offered C.model (moves_of index.now) (has keep.now) (looked C.exact costs.now) c (shown C.exact result) }
 {
@@ -151,7 +151,7 @@ fn offers_of<C: CostModel>(
     costs: &[Option<C::Cost>],
 ) -> Result<Vec<Option<C::Cost>>, AllocError>
     requires sized { length costs.now ≡ count_of index.now }
-    requires few { Few C.model C.exact (done costs.now - 1) costs.now }
+    requires few { Few C.model C.exact 255 costs.now }
     ensures { IfOk result (λ v. (length v.items ≡ length costs.now) × AllOffered C.model (moves_of index.now) (has keep.now) (length costs.now) (looked C.exact costs.now) (looked C.exact v.items)) }
 {
     let mut offers = Vec::new(heap);
@@ -171,7 +171,7 @@ fn renew<C: CostModel>(
 )
     requires sized { length costs.now ≡ count_of index.now }
     requires same { length offers.old ≡ count_of index.now }
-    requires few { Few C.model C.exact (done costs.now - 1) costs.now }
+    requires few { Few C.model C.exact 255 costs.now }
     requires within { d < count_of index.now }
     requires rest { (c : ℕ) → c < count_of index.now → Apart (moves_of index.now) c d → Offered C.model (moves_of index.now) (has keep.now) (looked C.exact costs.now) c (looked C.exact offers.old c) }
     ensures { AllOffered C.model (moves_of index.now) (has keep.now) (count_of index.now) (looked C.exact costs.now) (looked C.exact offers.new) }
@@ -193,7 +193,7 @@ fn fix<C: CostModel>(
 )
     requires sized { length costs.old ≡ count_of index.now }
     requires same { length offers.old ≡ count_of index.now }
-    requires few { Few C.model C.exact (done (slice_set costs.old label.condition (Some label.cost)) - 1) (slice_set costs.old label.condition (Some label.cost)) }
+    requires few { Few C.model C.exact 255 (slice_set costs.old label.condition (Some label.cost)) }
     requires within { label.condition < count_of index.now }
     requires rest { (c : ℕ) → c < count_of index.now → Apart (moves_of index.now) c label.condition → Offered C.model (moves_of index.now) (has keep.now) (looked C.exact (slice_set costs.old label.condition (Some label.cost))) c (looked C.exact (slice_set offers.old label.condition None) c) }
     ensures costs { costs.new ≡ slice_set costs.old label.condition (Some label.cost) }
@@ -229,7 +229,7 @@ fn choose<C: CostModel>(
     c: usize,
 ) -> Choice<C::Cost>
     requires sized { length costs.now ≡ count_of index.now }
-    requires early { Early C.model C.exact 254 costs.now }
+    requires early { Early C.model C.exact 255 costs.now }
     requires within { c < length costs.now }
     ensures { Picked C.model C.exact (moves_of index.now) (looked C.exact costs.now) (has goal.now) c result }
 {

@@ -1,9 +1,8 @@
-use Rattle.std.proofs.Common.{◌≤◌, sym, subst}
 use Rattle.costs.specs.Compare.{shown}
 use Rattle.tables.specs.Tables.{looked}
 use Rattle.plans.specs.Flags.{has}
-use Rattle.index.specs.Indexed.{moves_of, port_of}
-use Rattle.search.proofs.Steps.{few_open, offered_from}
+use Rattle.index.specs.Indexed.{moves_of}
+use Rattle.search.proofs.Steps.{offered_from}
 use Rattle.search.proofs.labelling.offer.Goals as goal
 
 pub cheapest-requires : goal.cheapest-requires
@@ -13,7 +12,7 @@ cheapest-requires g c =
     let from = c.moves_from.ensures in
     record {
       ordered = from.ordered;
-      few = few_open k.exact c.args.costs.now c.args.c (subst (λ n. n ≤ 256) (sym c.requires.sized) (port_of index).conditions_few) c.requires.within (c.is_open.ensures.0 c.if-is_open.true).0 c.requires.few;
+      few = c.requires.few;
     }
 
 pub returns-then-is_open : goal.returns-then-is_open

@@ -9,19 +9,21 @@ use Rattle.search.specs.declared.Choice.TheVariants.{None}
 use Rattle.index.proofs.Bounds.{index_timely, index_within}
 use Rattle.index.proofs.Lists.{pushed_each}
 use Rattle.costs.proofs.Order.{weaken}
-use Rattle.search.proofs.Steps.{answered}
+use Rattle.search.proofs.Steps.{answered, settled_early}
 use Rattle.search.proofs.labelling.search.Goals as goal
 
 pub choose-requires : goal.choose-requires
 choose-requires g c =
     let k = g.C.CostModel in
+    let index = c.args.index.now in
     let s = c.in_ok-costs.ensures in
     let value = c.deref.ensures.value in
     let len = ap length value in
     let size = c.in_ok-costs.costs.ok.0 in
     record {
       sized = len ∙ s.sized;
-      early = subst (λ t. Early k.model k.exact 254 t) (sym value) s.early;
+      early = subst (Early k.model k.exact 255) (sym value)
+          (settled_early (weaken k.laws) k.exact g.met.C.CostModel.sized (moves_of index) (has c.args.keep.now) (has c.args.goal.now) (count_of index) (index_within index) (index_timely index) (vec_items c.in_ok-costs.costs) s);
       within = omega arith;
     }
 

@@ -1,6 +1,6 @@
 use Rattle.std.proofs.Common.{◌≡◌, ℕ, suc, ◌-◌, ◌<◌, length, set, Some, None, vec_items, vec_len, sym, ap, ◌∙◌, subst, arith}
 use Rattle.std.specs.Vec.{with_items}
-use Rattle.std.proofs.lemmas.List.{with_items_is}
+use Rattle.std.proofs.lemmas.List.{with_items_is, length-set}
 use Rattle.search.specs.Labels.{Few, Offered, done}
 use Rattle.tables.specs.Tables.{looked, LeastOf}
 use Rattle.plans.specs.Flags.{has}
@@ -8,7 +8,7 @@ use Rattle.index.specs.Indexed.{count_of, moves_of, port_of}
 use Rattle.search.specs.Steps.{State, start}
 use Rattle.index.proofs.Bounds.{index_timely, index_within}
 use Rattle.costs.proofs.Order.{weaken}
-use Rattle.search.proofs.Steps.{final_start, few_start, above_start, d_within, few_next, rest_next, state_next, settled}
+use Rattle.search.proofs.Steps.{final_start, few_start, few_all, above_start, d_within, few_next, rest_next, state_next, settled}
 use Rattle.search.proofs.Tables.{done_most}
 use Rattle.search.proofs.labelling.solve.Goals as goal
 
@@ -23,8 +23,8 @@ offers_of-requires g c =
     let begun : (d : ℕ) → d < count_of index → looked k.exact t d ≡ start k.model (has c.args.goal.now) d = λ d l. told.1 d (subst (λ n. d < n) (sym all) l) in
     record {
       sized = ap length value ∙ told.0 ∙ all;
-      few = subst (λ u. Few k.model k.exact (done u - 1) u) (sym value)
-          (few_start (weaken k.laws) k.exact g.met.C.CostModel.sized (moves_of index) (has c.args.keep.now) (has c.args.goal.now) (count_of index) (index_within index) (index_timely index) (done t - 1) t (told.0 ∙ all) begun);
+      few = subst (Few k.model k.exact 255) (sym value)
+          (few_start (weaken k.laws) k.exact g.met.C.CostModel.sized (moves_of index) (has c.args.keep.now) (has c.args.goal.now) (count_of index) (index_within index) (index_timely index) 255 t (told.0 ∙ all) begun);
     }
 
 pub loop-label-init : goal.loop-label-init
@@ -78,7 +78,8 @@ fix-requires g c =
     record {
       sized = ap length cv ∙ state.costs_sized;
       same = ap length ov ∙ state.offers_sized;
-      few = subst (λ t. Few k.model k.exact (done (set t b.condition (Some b.cost)) - 1) (set t b.condition (Some b.cost))) (sym cv) few;
+      few = subst (λ t. Few k.model k.exact 255 (set t b.condition (Some b.cost))) (sym cv)
+          (few_all laws k.exact g.met.C.CostModel.sized ms keep goal n within timely (port_of index).conditions_few new (length-set costs b.condition (Some b.cost) ∙ state.costs_sized) few);
       within = d_within laws k.exact g.met.C.CostModel.sized ms keep goal n within timely costs offers state b low;
       rest = λ d l apart.
           subst (λ t. Offered k.model ms keep (looked k.exact (set t b.condition (Some b.cost))) d (looked k.exact (set c.deref_mut-in-Some.result.now b.condition None) d)) (sym cv)
