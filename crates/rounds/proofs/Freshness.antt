@@ -103,6 +103,9 @@ module _ (D : Domain) (wf : WellFormed D) (t : Tasks) (f : TasksFor D t) (i : �
   pub leg_staged : (x : Leg) → x ≡ get_or (vec_items t.legs) i x → x.to < D.stages
   leg_staged x is = subst (λ (s : ℕ). s < D.stages) (sym (leg_to x is)) (task_staged D wf i l).1
 
+  pub leg_leaves : (x : Leg) → x ≡ get_or (vec_items t.legs) i x → x.from < D.stages
+  leg_leaves x is = subst (λ (s : ℕ). s < D.stages) (sym (leg_from x is)) (task_staged D wf i l).0
+
   pub to_fits : (x : Leg) → x ≡ get_or (vec_items t.legs) i x → (g L : ℕ) → g ≡ D.conditions → L ≡ D.stages * D.conditions → x.to * g + g ≤ L
   to_fits x is g L eg e = row_fits x.to D.stages D.conditions g L (leg_staged x is) e eg
 

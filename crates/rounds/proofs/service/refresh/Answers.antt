@@ -5,14 +5,18 @@ use Rattle.plans.proofs.Formed.{port_formed}
 use Rattle.index.specs.Indexed.{count_of, port_of}
 use Rattle.rounds.specs.Rounds.{domain_in}
 use Rattle.rounds.specs.Rows.{Besides}
-use Rattle.rounds.proofs.Freshness.{leg_staged, row_fits, served_row}
+use Rattle.rounds.proofs.Freshness.{leg_staged, leg_leaves, row_fits, served_row}
 use Rattle.rounds.proofs.service.refresh.Goals as goal
 
 pub bounds-lost-index : goal.bounds-lost-index
 bounds-lost-index c =
     let D : Domain = domain_in c.args.index.now in
     let wf : WellFormed D = port_formed (port_of c.args.index.now) in
-    omega (arith, leg_staged D wf c.args.tasks.now c.requires.tasks c.args.i c.requires.within c.index.result.now c.index.ensures)
+    omega (
+      arith,
+      leg_staged D wf c.args.tasks.now c.requires.tasks c.args.i c.requires.within c.index.result.now c.index.ensures,
+      leg_leaves D wf c.args.tasks.now c.requires.tasks c.args.i c.requires.within c.index.result.now c.index.ensures,
+    )
 
 pub slice_bounds-serve-end : goal.slice_bounds-serve-end
 slice_bounds-serve-end c =

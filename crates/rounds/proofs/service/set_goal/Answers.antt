@@ -3,7 +3,7 @@ use Rattle.plans.specs.Simulation.{Domain, WellFormed}
 use Rattle.plans.proofs.Formed.{port_formed}
 use Rattle.index.specs.Indexed.{port_of}
 use Rattle.rounds.specs.Rounds.{domain_in}
-use Rattle.rounds.proofs.Freshness.{goal_aims, leg_to, row_fits, to_fits}
+use Rattle.rounds.proofs.Freshness.{goal_aims, leg_to, row_fits, to_fits, from_fits}
 use Rattle.rounds.proofs.Turns.{besides_at}
 use Rattle.rounds.proofs.service.set_goal.Goals as goal
 
@@ -12,7 +12,7 @@ overflow_mul-to c =
     let D : Domain = domain_in c.args.index.now in
     let wf : WellFormed D = port_formed (port_of c.args.index.now) in
     let wide : c.conditions-width.result ≡ D.conditions = c.conditions-width.ensures ∙ (port_of c.args.index.now).conditions.ok.0 in
-    record { fits = omega (arith, to_fits D wf c.args.tasks.now c.requires.tasks c.args.i c.requires.within c.index.result.now c.index.ensures _ _ wide c.requires.alive) }
+    record { fits = omega (arith, to_fits D wf c.args.tasks.now c.requires.tasks c.args.i c.requires.within c.index.result.now c.index.ensures _ _ wide c.requires.alive, from_fits D wf c.args.tasks.now c.requires.tasks c.args.i c.requires.within c.index.result.now c.index.ensures _ _ wide c.requires.alive) }
 
 pub meet-requires : goal.meet-requires
 meet-requires c =
@@ -25,7 +25,7 @@ meet-requires c =
         row_fits c.args.i (length D.tasks) D.conditions c.conditions-width.result (vec_len c.args.tasks.now.keep) c.requires.within c.requires.tasks.keep_long wide,
         row_fits c.args.i (length D.tasks) D.conditions c.conditions-width.result (vec_len c.args.tasks.now.reach) c.requires.within c.requires.tasks.reach_long wide,
       );
-      alive = to_fits D wf c.args.tasks.now c.requires.tasks c.args.i c.requires.within c.index.result.now c.index.ensures _ _ wide c.requires.alive;
+      alive = omega (arith, to_fits D wf c.args.tasks.now c.requires.tasks c.args.i c.requires.within c.index.result.now c.index.ensures _ _ wide c.requires.alive, from_fits D wf c.args.tasks.now c.requires.tasks c.args.i c.requires.within c.index.result.now c.index.ensures _ _ wide c.requires.alive);
       goals = row_fits c.args.i (length D.tasks) D.conditions c.conditions-width.result (length c.args.goals.now) c.requires.within c.requires.goals wide;
     }
 
