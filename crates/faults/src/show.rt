@@ -11,15 +11,13 @@ impl fmt::Display for LoadError {
     fn fmt<W: fmt::Write>(&self, f: &mut fmt::Formatter<W>) -> fmt::Result {
         match *self {
             LoadError::Fault { fault, records } => {
-                let number = fault.number();
-                let layer = fault.layer();
-                let place = fault.place();
+                let (number, layer, place) = (fault.number(), fault.layer(), fault.place());
                 write!(
                     f,
                     "fault {number} layer {layer} at {place} record {records}"
                 )
             }
-            LoadError::Memory => write!(f, "no memory"),
+            LoadError::Memory => f.write_str("no memory"),
         }
     }
 }

@@ -14,14 +14,14 @@ ghost use Rattle.faults.specs.Faults.{
 
 use crate::layers::{ByteFault, PortFault, RecordFault};
 
-// The layers.
-const BYTES: u8 = 1;
-
-const FORMULAS: u8 = 2;
-
-const RECORDS: u8 = 3;
-
-const PORT: u8 = 4;
+// The layers, by their numbers.
+#[derive(Clone, Copy, Debug, PartialEq)]
+enum Layer {
+    Bytes = 1,
+    Formulas = 2,
+    Records = 3,
+    Port = 4,
+}
 
 impl ByteFault {
     pub fn number(self) -> u8
@@ -45,7 +45,7 @@ impl ByteFault {
     pub fn layer(self) -> u8
         ensures { result ≡ byte_layer self }
     {
-        BYTES
+        Layer::Bytes as u8
     }
 }
 
@@ -68,9 +68,7 @@ impl RecordFault {
         match self {
             RecordFault::Byte(fault) => fault.place(),
             RecordFault::Formula(fault) => fault.place,
-            RecordFault::Kind(place) => place,
-            RecordFault::Map(place) => place,
-            RecordFault::Absent(place) => place,
+            RecordFault::Kind(place) | RecordFault::Map(place) | RecordFault::Absent(place) => place,
         }
     }
 
@@ -79,8 +77,8 @@ impl RecordFault {
     {
         match self {
             RecordFault::Byte(fault) => fault.layer(),
-            RecordFault::Formula(_) => FORMULAS,
-            _ => RECORDS,
+            RecordFault::Formula(_) => Layer::Formulas as u8,
+            _ => Layer::Records as u8,
         }
     }
 }
@@ -104,10 +102,10 @@ impl PortFault {
     {
         match self {
             PortFault::Record(fault) => fault.place(),
-            PortFault::Count(place) => place,
-            PortFault::Missing(place) => place,
-            PortFault::Sequence(place) => place,
-            PortFault::Many(place) => place,
+            PortFault::Count(place)
+            | PortFault::Missing(place)
+            | PortFault::Sequence(place)
+            | PortFault::Many(place) => place,
             PortFault::Start => 8,
         }
     }
@@ -117,7 +115,7 @@ impl PortFault {
     {
         match self {
             PortFault::Record(fault) => fault.layer(),
-            _ => PORT,
+            _ => Layer::Port as u8,
         }
     }
 }
