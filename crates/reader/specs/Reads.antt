@@ -1,8 +1,8 @@
 -- How a reader goes along: as a step of the defined reading says.
-use Rattle.std.specs.Prelude.{◌≡◌, ℕ, List, Ok, Err, Result}
+use Rattle.std.specs.Prelude.{◌≡◌, ℕ, List, Ok, Err, Result, nat_le, nat_lt}
 use Rattle.faults.specs.declared.layers.PortFault.{PortFault}
 use Rattle.reader.specs.declared.reader.Reader.{Reader}
-use Rattle.reading.specs.Reading.{Step, got, fault}
+use Rattle.reading.specs.Reading.{Step, got, fault, and_then, provided, byte, both}
 
 -- the step that a reading makes where the reader stands
 abbrev pub step : {V : Type 0} → (ℕ → List ℕ → Step V) → Reader → Step V
@@ -17,3 +17,7 @@ Reads read value lift before after (Err e) = step read before ≡ fault (lift e)
 -- a value, and a fault, that stand for themselves
 abbrev pub itself : {V : Type 0} → V → V
 itself v = v
+
+-- a byte from 1 to a limit; another is refused by this fault
+unfoldable pub counted : ℕ → PortFault → ℕ → List ℕ → Step ℕ
+counted most e p s = and_then (byte p s) (λ n q r. provided (both (nat_lt 0 n) (nat_le n most)) e (got n q r))

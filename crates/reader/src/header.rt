@@ -1,16 +1,17 @@
 // The header of a sheet: the opening, the counts, and where the port starts.
-ghost use Rattle.std.specs.Prelude.{◌≡◌, ◌≤◌, length, IfOk, nat_le, nat_lt};
+ghost use Rattle.std.specs.Prelude.{◌≤◌, IfOk};
 ghost use Rattle.faults.specs.declared.layers.PortFault.TheVariants.{Record};
 ghost use Rattle.faults.specs.declared.layers.RecordFault.TheVariants.{Byte};
-ghost use Rattle.reading.specs.Reading.{opening, count, start_stage, heading, same, both, opening_bytes};
+ghost use Rattle.reading.specs.Reading.{opening, count, start_stage, heading};
 ghost use Rattle.reader.specs.Reads.{Reads, itself};
 
+use crate::bytes::is_same;
 use crate::reader::Reader;
 use faults::{ByteFault, PortFault};
 use port::Header;
 
 // The bytes that every sheet begins with.
-const OPENING: [u8; 4] = [0x47, 0x41, 0x54, 0x45];
+const OPENING: [u8; 4] = *b"GATE";
 
 // The most marks, operations and stages of a port.
 const MARKS: u8 = 16;
@@ -19,28 +20,13 @@ const OPERATIONS: u8 = 32;
 
 const STAGES: u8 = 16;
 
-// Whether these four bytes are the opening.
-fn is_opening(bytes: &[u8]) -> bool
-    requires { length bytes.now ≡ 4 }
-    ensures { result ≡ same bytes.now opening_bytes }
-{
-    bytes == OPENING.as_slice()
-}
-
-// Whether a count is from 1 to `most`.
-fn is_count(value: u8, most: u8) -> bool
-    ensures { result ≡ both (nat_lt 0 value) (nat_le value most) }
-{
-    0 < value && value <= most
-}
-
 impl<'a> Reader<'a> {
     // The opening bytes.
     fn next_opening(&mut self) -> Result<&'a [u8], ByteFault>
         ensures { Reads opening (λ x. x.now) (λ e. Record (Byte e)) self.old self.new result }
     {
         let bytes = self.next_bytes(4)?;
-        if !is_opening(bytes) {
+        if !is_same(bytes, OPENING.as_slice()) {
             return Err(ByteFault::Opening);
         }
         Ok(bytes)
@@ -52,19 +38,7 @@ impl<'a> Reader<'a> {
         ensures most { IfOk result (λ v. v ≤ most) }
     {
         let place = self.place;
-        let value = self.next_byte()?;
-        if !is_count(value, most) {
-            return Err(PortFault::Count(place));
-        }
-        Ok(value)
-    }
-
-    // The count of marks, which fit a condition's 16 bits.
-    fn next_marks(&mut self) -> Result<u8, PortFault>
-        ensures read { Reads (count 16) itself itself self.old self.new result }
-        ensures most { IfOk result (λ v. v ≤ 16) }
-    {
-        self.next_count(MARKS)
+        self.next_counted(most, PortFault::Count(place))
     }
 
     // The start stage, which is one of the stages.
@@ -83,8 +57,8 @@ impl<'a> Reader<'a> {
         ensures read { Reads heading itself itself self.old self.new result }
         ensures marks { IfOk result (λ h. h.marks ≤ 16) }
     {
-        let _opening = self.next_opening()?;
-        let marks = self.next_marks()?;
+        self.next_opening()?;
+        let marks = self.next_count(MARKS)?;
         let operations = self.next_count(OPERATIONS)?;
         let stages = self.next_count(STAGES)?;
         let stage = self.next_start_stage(stages)?;

@@ -8,4 +8,3 @@ mod reader;
 mod text;
 
 pub use reader::Reader;
-pub use text::TextAt;

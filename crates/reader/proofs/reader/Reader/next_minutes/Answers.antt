@@ -1,4 +1,4 @@
-use Rattle.std.proofs.Common.{refl, ◌∙◌, arith, le-ltb, lt-ltb}
+use Rattle.std.proofs.Common.{◌≡◌, ◌+◌, ◌*◌, refl, ◌∙◌, arith, le-ltb, lt-ltb}
 use Rattle.std.proofs.lemmas.Result.{err_from_is_err_and}
 use Rattle.reading.specs.Reading.{minutes}
 use Rattle.reading.proofs.Steps.{then_got, then_fault, passed, failed}
@@ -23,9 +23,10 @@ returns-in_err-low c =
 pub returns-then-minutes-eq0 : goal.returns-then-minutes-eq0
 unfolding minutes
 returns-then-minutes-eq0 c =
-    rw c.if-not-present.false (then_got _ c.in_ok-high.ensures ∙ then_got _ c.in_ok-low.ensures ∙ failed _ _ (le-ltb _ _ (omega (arith, c.pair-minutes.ensures))))
+    rw c.if-not-present.false (then_got _ c.in_ok-high.ensures ∙ then_got _ c.in_ok-low.ensures ∙ failed _ _ (le-ltb _ _ (omega (arith, c.from_be_bytes-minutes.ensures))))
 
 pub returns : goal.returns
 unfolding minutes
 returns c =
-    rw (c.if-not-present.false, c.pair-minutes.ensures) (then_got _ c.in_ok-high.ensures ∙ then_got _ c.in_ok-low.ensures ∙ passed _ _ (lt-ltb _ _ (omega (arith, c.pair-minutes.ensures))))
+    let is : c.from_be_bytes-minutes.result ≡ 256 * c.in_ok-high.high + c.in_ok-low.low = omega (arith, c.from_be_bytes-minutes.ensures) in
+    rw (c.if-not-present.false, is) (then_got _ c.in_ok-high.ensures ∙ then_got _ c.in_ok-low.ensures ∙ passed _ _ (lt-ltb _ _ (omega (arith, is))))

@@ -14,13 +14,13 @@ returns-in_err-text c =
     let p = err_from_is_err_and c.from_residual.result c.from_residual.ensures.1 in
     rw (p.1, p.2, c.if-not-present.false) (then_fault _ c.in_err-text.ensures.read)
 
-pub returns-in_err-check_formula : goal.returns-in_err-check_formula
+pub returns-in_err-check : goal.returns-in_err-check
 unfolding text
-returns-in_err-check_formula c =
-    let p = err_from_is_err_and c.from_residual-in_err-check_formula.result c.from_residual-in_err-check_formula.ensures.1 in
-    rw (p.1, p.2, c.if-not-present.false) (then_got _ c.in_ok-text.ensures.read ∙ moved_stuck _ _ _ _ c.in_ok-text.ensures.stands.0 c.in_err-check_formula.ensures _)
+returns-in_err-check c =
+    let p = err_from_is_err_and c.from_residual-in_err-check.result c.from_residual-in_err-check.ensures.1 in
+    rw (p.1, p.2, c.if-not-present.false) (then_got _ c.in_ok-text.ensures.read ∙ moved_stuck _ _ _ _ c.in_ok-text.ensures.stands c.in_err-check.ensures _)
 
 pub returns : goal.returns
 unfolding text
 returns c =
-    rw c.if-not-present.false (then_got _ c.in_ok-text.ensures.read ∙ moved_whole _ _ _ c.in_ok-text.ensures.stands.0 c.in_ok-check_formula.ensures _)
+    rw c.if-not-present.false (then_got _ c.in_ok-text.ensures.read ∙ moved_whole _ _ _ c.in_ok-text.ensures.stands c.in_ok-check.ensures _)

@@ -1,0 +1,26 @@
+use Rattle.std.proofs.Common.{sym, ◌∙◌}
+use Rattle.std.proofs.lemmas.Result.{err_from_is_err_and}
+use Rattle.reading.proofs.Steps.{then_got, then_fault, passed, failed, byte_place, counted as from_one}
+use Rattle.reader.specs.Reads.{counted}
+use Rattle.reader.proofs.reader.Reader.next_counted.Goals as goal
+
+pub returns-in_err-value : goal.returns-in_err-value
+unfolding counted
+returns-in_err-value c =
+    let p = err_from_is_err_and c.from_residual.result c.from_residual.ensures.1 in
+    record { read = rw (p.1, p.2) (then_fault _ c.in_err-value.ensures); limits = rw p.1 tt }
+
+pub returns-then-not-is_count : goal.returns-then-not-is_count
+unfolding counted
+returns-then-not-is_count c =
+    record { read = then_got _ c.in_ok-value.ensures ∙ failed _ _ (sym c.is_count.ensures ∙ c.if-not-is_count.true); limits = tt }
+
+pub returns : goal.returns
+unfolding counted
+returns c =
+    let fits = sym c.is_count.ensures ∙ c.if-not-is_count.false in
+    let limits = from_one _ _ fits in
+    record {
+      read = then_got _ c.in_ok-value.ensures ∙ passed _ _ fits;
+      limits = (limits.0, limits.1, byte_place _ _ _ _ _ c.in_ok-value.ensures);
+    }
