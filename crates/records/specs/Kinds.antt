@@ -1,9 +1,14 @@
 -- The kinds of records as the bytes that stand for them.
-use Rattle.std.specs.Prelude.{ℕ}
+use Rattle.std.specs.Prelude.{◌≡◌, ◌≢◌, ℕ, MatchResult, Result}
 use Rattle.records.specs.declared.kinds.Kind.{Kind}
 use Rattle.records.specs.declared.kinds.Kind.TheVariants.{Condition, Move, Request}
+use Rattle.records.specs.declared.kinds.UnknownKind.{UnknownKind}
 
 abbrev pub kind_number : Kind → ℕ
 kind_number Condition = 1
 kind_number Move = 2
 kind_number Request = 3
+
+-- the kind that the byte stands for, or that it stands for none
+abbrev pub Decodes : ℕ → Result Kind UnknownKind → Type 0
+Decodes byte r = MatchResult r (λ k. byte ≡ kind_number k) (λ _. (byte ≢ 1) × (byte ≢ 2) × (byte ≢ 3))

@@ -1,4 +1,3 @@
 pub mod Kinds
 pub mod Entries
 pub mod Drafts
-pub mod Admission

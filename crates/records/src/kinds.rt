@@ -1,68 +1,51 @@
 // The kinds of records.
-ghost use Rattle.std.specs.Prelude.{◌≡◌, ◌+◌, false, MatchOption, MatchResult, ◌==◌, ◌≢◌, bit_and, count_ones, nat_lt};
-ghost use Rattle.faults.specs.declared.layers.RecordFault.TheVariants.{Kind as KindFault};
-ghost use Rattle.port.specs.Model.{Model};
-ghost use Rattle.reading.specs.Reading.{follows, map_limit};
-ghost use Rattle.records.specs.Kinds.{kind_number};
+ghost use Rattle.std.specs.Prelude.{◌≡◌, ◌^◌, ◌<◌, nat_lt};
+ghost use Rattle.reading.specs.Reading.{map_limit};
+ghost use Rattle.records.specs.Kinds.{Decodes, kind_number};
 
-use faults::RecordFault;
-
-#[derive(Clone, Copy)]
+// The kinds, by the bytes that stand for them.
+#[derive(Clone, Copy, Debug, PartialEq)]
 pub enum Kind {
-    Condition,
-    Move,
-    Request,
+    Condition = 1,
+    Move = 2,
+    Request = 3,
 }
 
-// The kind that a byte stands for.
-pub(crate) fn kind_of(byte: u8) -> Option<Kind>
-    ensures { MatchOption result ((byte ≢ 1) × (byte ≢ 2) × (byte ≢ 3)) (λ k. byte ≡ kind_number k) }
-{
-    if byte == 1 {
-        return Some(Kind::Condition);
-    }
-    if byte == 2 {
-        return Some(Kind::Move);
-    }
-    if byte == 3 {
-        return Some(Kind::Request);
-    }
-    None
-}
+// A byte that stands for no kind.
+#[derive(Clone, Copy, Debug, PartialEq)]
+pub struct UnknownKind;
 
-// The kind of the byte at this place. A byte that is none follows nothing.
-pub(crate) fn known_kind(byte: u8, place: usize) -> Result<Kind, RecordFault>
-    ensures { MatchResult result (λ k. byte ≡ kind_number k) (λ e. (e ≡ KindFault place) × ((m : Model) → follows m byte ≡ false)) }
-{
-    match kind_of(byte) {
-        Some(kind) => Ok(kind),
-        None => Err(RecordFault::Kind(place)),
-    }
-}
+impl TryFrom<u8> for Kind {
+    type Error = UnknownKind;
 
-// Whether every bit of the map is one of these.
-fn is_within(map: u8, bits: u8) -> bool
-    ensures { result ≡ (count_ones (bit_and map bits) == count_ones map) }
-{
-    (map & bits).count_ones() == map.count_ones()
+    ghost try_from_gives = { Decodes };
+
+    fn try_from(byte: u8) -> Result<Kind, UnknownKind> {
+        match byte {
+            1 => Ok(Kind::Condition),
+            2 => Ok(Kind::Move),
+            3 => Ok(Kind::Request),
+            _ => Err(UnknownKind),
+        }
+    }
 }
 
 impl Kind {
-    // The bits of the map that have a field.
-    fn defined(self) -> u8
-        ensures { result + 1 ≡ map_limit (kind_number self) }
+    // How many fields a record of this kind may have, each with a bit of its map.
+    fn fields(self) -> u8
+        ensures few { result < 8 }
+        ensures limit { 2 ^ result ≡ map_limit (kind_number self) }
     {
         match self {
-            Kind::Condition => 0b0011,
-            Kind::Move => 0b1111,
-            Kind::Request => 0b1111,
+            Kind::Condition => 2,
+            Kind::Move | Kind::Request => 4,
         }
     }
 
-    // Whether every bit of the map has a field: then it counts as many fields as there are bits.
+    // Whether every bit of the map has a field.
     pub(crate) fn has_fields(self, map: u8) -> bool
         ensures { result ≡ nat_lt map (map_limit (kind_number self)) }
     {
-        is_within(map, self.defined())
+        map >> self.fields() == 0
     }
 }

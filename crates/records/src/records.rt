@@ -1,15 +1,15 @@
 // The records of a sheet, each read against the port as far as it is known.
-ghost use Rattle.std.specs.Prelude.{◌≡◌, ℕ, ◌-◌, ◌^◌, ◌<◌, ◌≤◌, min};
+ghost use Rattle.std.specs.Prelude.{◌≡◌, ◌<◌};
 ghost use Rattle.records.specs.Drafts.{draft_model};
 ghost use Rattle.records.specs.Entries.{entry_of, head_of, request_at};
-ghost use Rattle.reading.specs.Reading.{low_limit, high_limit, condition as condition_read, move as move_read, request as request_read, head as head_read, present, entry as entry_read};
+ghost use Rattle.reading.specs.Reading.{low_limit, high_limit, condition as condition_read, move as move_read, request as request_read, head as head_read, present, entry as entry_read, field, text};
 ghost use Rattle.reader.specs.Reads.{Reads, itself};
 
 use crate::draft::Draft;
 use crate::kinds::Kind;
-use faults::{ByteFault, PortFault, RecordFault};
+use faults::{PortFault, RecordFault};
 use port::Move;
-use reader::{Reader, TextAt};
+use reader::Reader;
 
 // A record, with the texts of a request still in the sheet.
 #[derive(Clone, Copy)]
@@ -24,8 +24,8 @@ pub enum Record<'a> {
 pub struct RequestAt<'a> {
     pub from: u8,
     pub to: u8,
-    pub keep: TextAt<'a>,
-    pub reach: TextAt<'a>,
+    pub keep: &'a [u8],
+    pub reach: &'a [u8],
 }
 
 // How a record begins: its kind and its map, and where each stands.
@@ -46,46 +46,42 @@ impl Head {
         (self.map >> bit) & 1 == 1
     }
 
-    // Whether the first field is there, and so for the others.
-    fn first(self) -> bool
-        ensures { result ≡ present self.map 0 }
+    // The field of this bit: a number below a limit.
+    fn field(self, reader: &mut Reader, bit: u8, limit: usize) -> Result<u8, PortFault>
+        requires { bit < 8 }
+        ensures { Reads (field (present self.map bit) self.map_place limit) itself itself reader.old reader.new result }
     {
-        self.has(0)
+        reader.next_field(self.has(bit), self.map_place, limit)
     }
 
-    fn second(self) -> bool
-        ensures { result ≡ present self.map 1 }
+    // The field of this bit: a text over the marks.
+    fn text<'a>(
+        self,
+        reader: &mut Reader<'a>,
+        bit: u8,
+        marks: u8,
+    ) -> Result<&'a [u8], PortFault>
+        requires { bit < 8 }
+        ensures { Reads (text (present self.map bit) marks) (λ t. t.now) itself reader.old reader.new result }
     {
-        self.has(1)
-    }
-
-    fn third(self) -> bool
-        ensures { result ≡ present self.map 2 }
-    {
-        self.has(2)
-    }
-
-    fn fourth(self) -> bool
-        ensures { result ≡ present self.map 3 }
-    {
-        self.has(3)
+        reader.next_text(self.has(bit), marks)
     }
 }
 
-// The marks of a low byte that exist are those below this limit.
-fn low_limit(marks: u8) -> usize
-    requires { marks ≤ 16 }
-    ensures { result ≡ low_limit marks }
-{
-    1 << marks.min(8)
-}
+impl Draft {
+    // The marks of a low byte that exist are those below this limit.
+    fn low_limit(&self) -> usize
+        ensures { result ≡ low_limit self.now.header.marks }
+    {
+        1 << self.header.marks.min(8)
+    }
 
-// And of a high byte, those below this one.
-fn high_limit(marks: u8) -> usize
-    requires { marks ≤ 16 }
-    ensures { result ≡ high_limit marks }
-{
-    1 << marks.saturating_sub(8)
+    // And of a high byte, those below this one.
+    fn high_limit(&self) -> usize
+        ensures { result ≡ high_limit self.now.header.marks }
+    {
+        1 << self.header.marks.saturating_sub(8)
+    }
 }
 
 // Takes the beginning of a record apart. Its kind is judged before a map byte is looked for.
@@ -93,37 +89,28 @@ fn read_head(reader: &mut Reader, draft: &Draft) -> Result<Head, PortFault>
     ensures { Reads (head_read (draft_model draft.now)) head_of itself reader.old reader.new result }
 {
     let place = reader.place;
-    match reader.rest {
-        [kind, map, rest @ ..] => {
-            let kind = draft.admit(*kind, place)?;
-            if !kind.has_fields(*map) {
-                return Err(PortFault::from(RecordFault::Map(place + 1)));
-            }
-            reader.rest = rest;
-            reader.place = place + 2;
-            Ok(Head {
-                kind,
-                place,
-                map: *map,
-                map_place: place + 1,
-            })
-        }
-        [kind] => {
-            let _kind = draft.admit(*kind, place)?;
-            Err(PortFault::from(ByteFault::Ends(place + 1)))
-        }
-        [] => Err(PortFault::from(ByteFault::Ends(place))),
+    let byte = reader.next_byte()?;
+    let kind = draft.admit(byte, place)?;
+    let map_place = reader.place;
+    let map = reader.next_byte()?;
+    if !kind.has_fields(map) {
+        return Err(PortFault::Record(RecordFault::Map(map_place)));
     }
+    Ok(Head {
+        kind,
+        place,
+        map,
+        map_place,
+    })
 }
 
 // A condition: the low and the high byte of its marks.
 fn read_condition(reader: &mut Reader, draft: &Draft, head: Head) -> Result<u16, PortFault>
     ensures { Reads (condition_read (draft_model draft.now) head.place head.map_place head.map) itself itself reader.old reader.new result }
 {
-    let marks = draft.header.marks;
-    let low = reader.next_field(head.first(), head.map_place, low_limit(marks))?;
-    let high = reader.next_field(head.second(), head.map_place, high_limit(marks))?;
-    let condition = low as u16 + 256 * high as u16;
+    let low = head.field(reader, 0, draft.low_limit())?;
+    let high = head.field(reader, 1, draft.high_limit())?;
+    let condition = u16::from_le_bytes([low, high]);
     if !draft.condition_rises(condition) {
         return Err(PortFault::Sequence(head.place));
     }
@@ -136,10 +123,10 @@ fn read_move(reader: &mut Reader, draft: &Draft, head: Head) -> Result<Move, Por
 {
     let conditions = draft.conditions.len();
     let operations = draft.header.operations as usize;
-    let condition = reader.next_field(head.first(), head.map_place, conditions)?;
-    let operation = reader.next_field(head.second(), head.map_place, operations)?;
-    let outcome = reader.next_field(head.third(), head.map_place, conditions)?;
-    let minutes = reader.next_minutes(head.fourth())?;
+    let condition = head.field(reader, 0, conditions)?;
+    let operation = head.field(reader, 1, operations)?;
+    let outcome = head.field(reader, 2, conditions)?;
+    let minutes = reader.next_minutes(head.has(3))?;
     let found = Move {
         condition,
         operation,
@@ -162,10 +149,10 @@ fn read_request<'a>(
 {
     let stages = draft.header.stages as usize;
     let marks = draft.header.marks;
-    let from = reader.next_field(head.has(0), head.map_place, stages)?;
-    let to = reader.next_field(head.has(1), head.map_place, stages)?;
-    let keep = reader.next_text(head.has(2), marks)?;
-    let reach = reader.next_text(head.has(3), marks)?;
+    let from = head.field(reader, 0, stages)?;
+    let to = head.field(reader, 1, stages)?;
+    let keep = head.text(reader, 2, marks)?;
+    let reach = head.text(reader, 3, marks)?;
     Ok(RequestAt {
         from,
         to,

@@ -1,43 +1,43 @@
-use Rattle.std.proofs.Common.{refl, ◌∙◌}
+use Rattle.std.proofs.Common.{◌∙◌}
 use Rattle.std.proofs.lemmas.Result.{err_from_is_err_and}
 use Rattle.reading.specs.Reading.{request}
-use Rattle.reading.proofs.Steps.{then_got, then_fault, field_told, text_told}
+use Rattle.reading.proofs.Steps.{then_got, then_fault}
 use Rattle.records.proofs.records.read_request.Goals as goal
 
 pub returns-in_err-from : goal.returns-in_err-from
 unfolding request
 returns-in_err-from c =
     let p = err_from_is_err_and c.from_residual.result c.from_residual.ensures.1 in
-    rw (p.1, p.2) (then_fault _ (field_told _ _ _ c.has.ensures refl c.in_err-from.ensures))
+    rw (p.1, p.2) (then_fault _ c.in_err-from.ensures)
 
 pub returns-in_err-to : goal.returns-in_err-to
 unfolding request
 returns-in_err-to c =
     let p = err_from_is_err_and c.from_residual-in_err-to.result c.from_residual-in_err-to.ensures.1 in
-    rw (p.1, p.2) (then_got _ (field_told _ _ _ c.has.ensures refl c.in_ok-from.ensures)
-    ∙ then_fault _ (field_told _ _ _ c.has-2.ensures refl c.in_err-to.ensures))
+    rw (p.1, p.2) (then_got _ c.in_ok-from.ensures
+    ∙ then_fault _ c.in_err-to.ensures)
 
 pub returns-in_err-keep : goal.returns-in_err-keep
 unfolding request
 returns-in_err-keep c =
     let p = err_from_is_err_and c.from_residual-in_err-keep.result c.from_residual-in_err-keep.ensures.1 in
-    rw (p.1, p.2) (then_got _ (field_told _ _ _ c.has.ensures refl c.in_ok-from.ensures)
-    ∙ then_got _ (field_told _ _ _ c.has-2.ensures refl c.in_ok-to.ensures)
-    ∙ then_fault _ (text_told _ _ _ c.has-3.ensures c.in_err-keep.ensures))
+    rw (p.1, p.2) (then_got _ c.in_ok-from.ensures
+    ∙ then_got _ c.in_ok-to.ensures
+    ∙ then_fault _ c.in_err-keep.ensures)
 
 pub returns-in_err-reach : goal.returns-in_err-reach
 unfolding request
 returns-in_err-reach c =
     let p = err_from_is_err_and c.from_residual-in_err-reach.result c.from_residual-in_err-reach.ensures.1 in
-    rw (p.1, p.2) (then_got _ (field_told _ _ _ c.has.ensures refl c.in_ok-from.ensures)
-    ∙ then_got _ (field_told _ _ _ c.has-2.ensures refl c.in_ok-to.ensures)
-    ∙ then_got _ (text_told _ _ _ c.has-3.ensures c.in_ok-keep.ensures)
-    ∙ then_fault _ (text_told _ _ _ c.has-4.ensures c.in_err-reach.ensures))
+    rw (p.1, p.2) (then_got _ c.in_ok-from.ensures
+    ∙ then_got _ c.in_ok-to.ensures
+    ∙ then_got _ c.in_ok-keep.ensures
+    ∙ then_fault _ c.in_err-reach.ensures)
 
 pub returns : goal.returns
 unfolding request
 returns c =
-    then_got _ (field_told _ _ _ c.has.ensures refl c.in_ok-from.ensures)
-    ∙ then_got _ (field_told _ _ _ c.has-2.ensures refl c.in_ok-to.ensures)
-    ∙ then_got _ (text_told _ _ _ c.has-3.ensures c.in_ok-keep.ensures)
-    ∙ then_got _ (text_told _ _ _ c.has-4.ensures c.in_ok-reach.ensures)
+    then_got _ c.in_ok-from.ensures
+    ∙ then_got _ c.in_ok-to.ensures
+    ∙ then_got _ c.in_ok-keep.ensures
+    ∙ then_got _ c.in_ok-reach.ensures

@@ -1,22 +1,31 @@
-use Rattle.std.proofs.Common.{sym, ◌∙◌}
-use Rattle.std.proofs.lemmas.Result.{err_from_is_err_and}
-use Rattle.reading.proofs.Steps.{kind_refused}
+use Rattle.std.proofs.Common.{refl, sym, ap, ◌∙◌, ne_eqb}
+use Rattle.reading.specs.Reading.{admitted, follows, room}
+use Rattle.reading.proofs.Steps.{passed, failed}
 use Rattle.records.specs.Drafts.{draft_model}
-use Rattle.records.proofs.Admitted.{admission_fault, admission_passed}
 use Rattle.records.proofs.draft.Draft.admit.Goals as goal
 
-pub returns-in_err-kind : goal.returns-in_err-kind
-returns-in_err-kind c =
-    let p = err_from_is_err_and c.from_residual.result c.from_residual.ensures.1 in
-    let t = c.in_err-kind.ensures in
-    rw (p.1, p.2) (λ x. kind_refused _ _ _ x t.0 (t.1 (draft_model c.args.self.now)))
+pub returns-in_default : goal.returns-in_default
+unfolding admitted
+returns-in_default c = λ x.
+    let none = c.in_default.ensures in
+    failed _ _ (rw (ne_eqb c.args.byte 1 none.0, ne_eqb c.args.byte 2 none.1, ne_eqb c.args.byte 3 none.2) refl)
 
-pub returns-in_err-check_next : goal.returns-in_err-check_next
-returns-in_err-check_next c =
-    let p = err_from_is_err_and c.from_residual-in_err-check_next.result c.from_residual-in_err-check_next.ensures.1 in
-    rw (p.1, p.2, c.in_ok-kind.ensures) (λ x. admission_fault _ _ _ x _ (sym c.check_next.ensures ∙ c.in_err-check_next.was))
+pub returns-then-not-follows : goal.returns-then-not-follows
+unfolding admitted
+returns-then-not-follows c = λ x.
+    failed _ _ (ap (follows (draft_model c.args.self.now)) c.in-Ok.ensures ∙ sym c.follows.ensures ∙ c.if-not-follows.true)
+
+pub returns-then-not-has_room : goal.returns-then-not-has_room
+unfolding admitted
+returns-then-not-has_room c = λ x.
+    passed _ _ (ap (follows (draft_model c.args.self.now)) c.in-Ok.ensures ∙ sym c.follows.ensures ∙ c.if-not-follows.false)
+    ∙ failed _ _ (ap (room (draft_model c.args.self.now)) c.in-Ok.ensures ∙ sym c.has_room.ensures ∙ c.if-not-has_room.true)
 
 pub returns : goal.returns
-returns c =
-    let k = c.in_ok-kind.ensures in
-    (k, λ x. rw k (admission_passed _ _ _ x _ (sym c.check_next.ensures ∙ c.in_ok-check_next.was)))
+unfolding admitted
+returns c = (
+  c.in-Ok.ensures,
+  λ x.
+      passed _ _ (ap (follows (draft_model c.args.self.now)) c.in-Ok.ensures ∙ sym c.follows.ensures ∙ c.if-not-follows.false)
+      ∙ passed _ _ (ap (room (draft_model c.args.self.now)) c.in-Ok.ensures ∙ sym c.has_room.ensures ∙ c.if-not-has_room.false),
+)

@@ -1,13 +1,8 @@
-use Rattle.std.proofs.Common.{sym, refl, ◌∙◌}
-use lib.ListN.{length-map}
+use Rattle.std.proofs.Common.{rules}
 use Rattle.port.specs.Limits.{key}
-use Rattle.reading.proofs.Steps.{rises_none, rises_key}
+use Rattle.records.proofs.Tests.{rises_by}
 use Rattle.records.proofs.draft.Draft.move_rises.Goals as goal
 
-pub returns-then-n-eq0 : goal.returns-then-n-eq0
-returns-then-n-eq0 c =
-    rises_none _ _ _ (c.len-n.ensures ∙ c.args.self.now.moves.ok.0 ∙ sym (length-map _ key)) c.if-n-eq0.true
-
-pub returns-else-n-eq0 : goal.returns-else-n-eq0
-returns-else-n-eq0 c =
-    c.is_before.ensures ∙ rises_key _ _ _ _ _ (c.len-n.ensures ∙ c.args.self.now.moves.ok.0) c.if-n-eq0.false c.index.ensures refl
+pub returns : goal.returns
+returns c =
+    rises_by (λ x. x.now) key c.args.self.now.moves.items (key c.args.m) c.last.result c.is_none_or.result _ (rw c.deref.ensures.value at c.last.ensures.value) c.is_none_or.ensures (λ x k. search rules)

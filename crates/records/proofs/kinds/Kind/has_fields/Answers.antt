@@ -1,6 +1,7 @@
-use Rattle.std.proofs.Common.{◌∙◌}
-use Rattle.records.proofs.Maps.{fields_counted}
+use Rattle.std.proofs.Common.{◌≡◌, ◌^◌, ltb, ap, ◌∙◌, arith, pow_pos}
+use Rattle.records.proofs.Tests.{none_over}
 use Rattle.records.proofs.kinds.Kind.has_fields.Goals as goal
 
 pub returns : goal.returns
-returns c = c.is_within.ensures ∙ fields_counted c.args.self c.args.map c.defined.result c.defined.ensures
+returns c =
+    none_over c.args.map (2 ^ c.fields.result) (pow_pos c.fields.result) ∙ ap (ltb c.args.map) c.fields.ensures.limit

@@ -1,0 +1,43 @@
+-- Tests of numbers, as the code and the reading write them.
+use Rattle.std.proofs.Common.{◌≡◌, ℕ, ◌+◌, ◌-◌, ◌*◌, ◌/◌, ◌<◌, Bool, true, false, eqb, ltb, List, [], ◌∷◌, length, get_or, refl, sym, ap, ◌∙◌, arith, eq-eqb, ne_eqb, ltb-true, ltb-false}
+use mathlib.Core.List as List
+use lib.ListN.{length-map}
+use Rattle.std.proofs.Math.Nat.{div-lt_iff_lt-mul}
+use Rattle.std.proofs.lemmas.Bool.Decides.{nat_tests}
+use Rattle.std.specs.Ordering.{nat_cmp, is_lt, is_some_and, partial_ordering_then}
+use Rattle.std.specs.Prelude.{Option, Some, None, MatchOption, option_map}
+use Rattle.std.specs.List.{slice_get}
+use Rattle.std.proofs.lemmas.Option.{none-some, slice_get-get_or, slice_get_within, get_or_from_slice_get}
+use Rattle.std.proofs.lemmas.List.{get_or-map}
+use Rattle.reading.specs.Reading.{rises}
+
+-- a quotient is 0 exactly below the divisor
+pub none_over : (n d : ℕ) → 0 < d → eqb (n / d) 0 ≡ ltb n d
+none_over n d h = by (ltb n d) refl
+  where
+    by : (t : Bool) → ltb n d ≡ t → eqb (n / d) 0 ≡ t
+    by true e =
+        let below : n / d < 1 = (div-lt_iff_lt-mul {k = d} {x = n} {y = 1} h).1 (omega (arith, ltb-true n d e)) in
+        eq-eqb _ _ (omega arith)
+    by false e =
+        ne_eqb _ _ (λ z.
+        let below : n < 1 * d = (div-lt_iff_lt-mul {k = d} {x = n} {y = 1} h).0 (omega arith) in
+        omega (arith, ltb-false n d e))
+
+-- the order of three numbers, of which the later two are bytes, is that of one number made of them
+pub three_before : (a b c d e f : ℕ) → b < 256 → c < 256 → e < 256 → f < 256 →
+    is_some_and is_lt (partial_ordering_then (partial_ordering_then (Some (nat_cmp a d)) (Some (nat_cmp b e))) (Some (nat_cmp c f))) ≡ ltb (65536 * a + 256 * b + c) (65536 * d + 256 * e + f)
+three_before a b c d e f hb hc he hf = grind (arith, nat_tests)
+
+-- a number is above the last of those that a list comes to, if there is no last one or it is above that one
+pub rises_by : {A B : Type 0} (now : A → B) (f : B → ℕ) (xs : List B) (v : ℕ) (o : Option A) (b : Bool) (Q : A → Type 0) → option_map now o ≡ slice_get xs (length xs - 1) → MatchOption o (b ≡ true) Q → ((x : A) → Q x → b ≡ ltb (f (now x)) v) → b ≡ rises (List.map f xs) v
+unfolding rises
+rises_by now f [] v None b Q h t told = t
+rises_by now f (x ∷ xs) v None b Q h t told =
+    absurd (none-some _ (h ∙ slice_get-get_or (x ∷ xs) (length (x ∷ xs) - 1) x (omega arith)))
+rises_by now f xs v (Some y) b Q h t told =
+    let lt : length xs - 1 < length xs = slice_get_within xs (length xs - 1) (now y) (sym h) in
+    let at : get_or xs (length xs - 1) (now y) ≡ now y = get_or_from_slice_get xs (length xs - 1) (now y) (now y) (sym h) in
+    let last : get_or (List.map f xs) (length (List.map f xs) - 1) 0 ≡ f (now y) =
+    ap (λ n. get_or (List.map f xs) (n - 1) 0) (length-map xs f) ∙ get_or-map f xs (length xs - 1) (now y) 0 lt ∙ ap f at in
+    rw (ne_eqb (length (List.map f xs)) 0 (λ z. omega (arith, length-map xs f)), last) (told y t)
