@@ -82,10 +82,10 @@ impl Draft {
     }
 
     // Whether a move comes after the last one.
-    pub(crate) fn move_rises(&self, m: Move) -> bool
-        ensures { result ≡ rises (mapped key self.now.moves.items) (key m) }
+    pub(crate) fn move_rises(&self, next: Move) -> bool
+        ensures { result ≡ rises (mapped key self.now.moves.items) (key next) }
     {
-        self.moves.last().is_none_or(|last| is_before(*last, m))
+        self.moves.last().is_none_or(|last| is_before(*last, next))
     }
 
     // Whether the start condition exists.

@@ -104,6 +104,9 @@ fn read_head(reader: &mut Reader, draft: &Draft) -> Result<Head, PortFault>
     })
 }
 
+// Stays: the reader, the draft and the head as parameters of each. A struct of the three would be made anew for each
+// record, since the draft grows between two, and no call would be shorter.
+
 // A condition: the low and the high byte of its marks.
 fn read_condition(reader: &mut Reader, draft: &Draft, head: Head) -> Result<u16, PortFault>
     ensures { Reads (condition_read (draft_model draft.now) head.place head.map_place head.map) itself itself reader.old reader.new result }
