@@ -4,27 +4,14 @@ use Rattle.faults.specs.declared.errors.LoadError.{LoadError}
 use Rattle.faults.specs.declared.errors.LoadError.TheVariants.{Fault, Memory}
 use Rattle.port.specs.declared.held.Port.{Port}
 use Rattle.port.specs.Model.{Model, model_of}
-use Rattle.reading.specs.Reading.{Read, held, refused, reading, finish}
-use Rattle.records.specs.declared.draft.Draft.{Draft}
-use Rattle.records.specs.Drafts.{draft_model}
+use Rattle.reading.specs.Reading.{Read, held, refused, reading}
 
--- what the records from a place on tell, once they are read
-abbrev pub RecordsRead : Read → Model → Result ℕ LoadError → Type 0
-RecordsRead x after (Ok n) = x ≡ finish n after
-RecordsRead x after (Err (Fault f n)) = x ≡ refused f n
-RecordsRead x after (Err Memory) = Unit {0}
-
--- the draft that a sheet tells
-abbrev pub Told : List ℕ → Result Draft LoadError → Type 0
-Told t (Ok d) = reading t ≡ held (draft_model d)
-Told t (Err (Fault f n)) = reading t ≡ refused f n
-Told t (Err Memory) = Unit {0}
-
--- the port that a sheet tells, before it is put in place
-abbrev pub PortTold : List ℕ → Result Port LoadError → Type 0
-PortTold t (Ok p) = reading t ≡ held (model_of p)
-PortTold t (Err (Fault f n)) = reading t ≡ refused f n
-PortTold t (Err Memory) = Unit {0}
+-- The answer is that of the reading: this reading of its value, or the fault, with the records before it. Want of
+-- memory says nothing of the sheet.
+abbrev pub Tells : {V : Type 0} → (V → Read) → Read → Result V LoadError → Type 0
+Tells value x (Ok v) = x ≡ value v
+Tells value x (Err (Fault f n)) = x ≡ refused f n
+Tells value x (Err Memory) = Unit {0}
 
 -- A load does what the sheet's reading says; refused, or for want of memory, it keeps the port as it was.
 abbrev pub Loaded : {U : Type 0} → List ℕ → Port → Port → Result U LoadError → Type 0

@@ -7,22 +7,23 @@ ghost use Rattle.reading.specs.Reading.{EntrySized, Sized, add};
 ghost use Rattle.records.specs.Entries.{entry_of, request_at};
 
 use port::{Port, Request, Text};
-use reader::TextAt;
 use records::{Draft, Record, RequestAt};
 use std::alloc::{AllocError, Global};
 
+// Stays: `owned_text`, `owned` and `seal` as functions. A `TryFrom` takes no allocator, and a `From` no `requires`.
+
 // A text that owns its bytes.
-fn owned_text(heap: Global, text: TextAt) -> Result<Text, AllocError>
-    requires { Sized text.bytes.now }
-    ensures { IfOk result (λ t. t.bytes.items ≡ text.entry.bytes.now) }
+fn owned_text(heap: Global, text: &[u8]) -> Result<Text, AllocError>
+    requires { Sized text.now }
+    ensures { IfOk result (λ t. t.bytes.items ≡ text.now) }
 {
-    let bytes = Vec::from_slice(heap, text.bytes)?;
+    let bytes = Vec::from_slice(heap, text)?;
     Ok(Text { bytes })
 }
 
 // A request that owns its texts.
 fn owned(heap: Global, asked: RequestAt) -> Result<Request, AllocError>
-    requires { (Sized asked.keep.bytes.now) × (Sized asked.reach.bytes.now) }
+    requires { (Sized asked.keep.now) × (Sized asked.reach.now) }
     ensures { IfOk result (λ q. request_model q ≡ request_at asked.entry) }
 {
     let keep = owned_text(heap, asked.keep)?;
@@ -46,7 +47,7 @@ pub(crate) fn add_record(draft: &mut Draft, heap: Global, entry: Record) -> Resu
         Record::Move(found) => draft.moves.push(found)?,
         Record::Request(asked) => {
             let request = owned(heap, asked)?;
-            draft.requests.push(request)?;
+            draft.requests.push(request)?
         }
     }
     Ok(())

@@ -4,8 +4,8 @@ ghost use Rattle.port.specs.Model.{Model, model_of};
 ghost use Rattle.port.specs.Valid.{Valid};
 ghost use Rattle.records.specs.Drafts.{draft_model};
 ghost use Rattle.reading.specs.Theorems.{Grammatical, Only};
-ghost use Rattle.sheet.specs.Loading.{Holds, Loaded, PortTold, RecordsRead, Told};
-ghost use Rattle.reading.specs.Reading.{records};
+ghost use Rattle.sheet.specs.Loading.{Holds, Loaded, Tells};
+ghost use Rattle.reading.specs.Reading.{finish, held, reading, records};
 ghost use Rattle.reading.specs.SheetOf.{sheet_of};
 
 use crate::build::{add_record, seal};
@@ -17,19 +17,16 @@ use std::alloc::Global;
 
 // Reads records until the bytes end, and tells how many there are.
 fn read_records(reader: &mut Reader, draft: &mut Draft, heap: Global) -> Result<usize, LoadError>
-    ensures { (fuel : ℕ) → length reader.old.rest.now ≤ fuel → RecordsRead (records fuel 0 (draft_model draft.old) reader.old.place reader.old.rest.now) (draft_model draft.new) result }
+    ensures { (fuel : ℕ) → length reader.old.rest.now ≤ fuel → Tells (λ n. finish n (draft_model draft.new)) (records fuel 0 (draft_model draft.old) reader.old.place reader.old.rest.now) result }
 {
+    // Stays: the count by hand, since the records end where the bytes do, and no range or iterator tells when that is.
     let mut count = 0;
-    while reader.rest.len() > 0 {
-        match read_record(reader, draft) {
-            Ok(found) => add_record(draft, heap, found)?,
-            Err(fault) => {
-                return Err(LoadError::Fault {
-                    fault,
-                    records: count,
-                });
-            }
-        }
+    while !reader.rest.is_empty() {
+        let found = read_record(reader, draft).map_err(|fault| LoadError::Fault {
+            fault,
+            records: count,
+        })?;
+        add_record(draft, heap, found)?;
         count += 1;
     }
     Ok(count)
@@ -37,7 +34,7 @@ fn read_records(reader: &mut Reader, draft: &mut Draft, heap: Global) -> Result<
 
 // What a sheet tells of a port.
 fn read_draft(heap: Global, sheet: &[u8]) -> Result<Draft, LoadError>
-    ensures { Told sheet.now result }
+    ensures { Tells (λ d. held (draft_model d)) (reading sheet.now) result }
 {
     let mut reader = Reader::new(sheet);
     let mut draft = Draft::begin(&mut reader, heap)?;
@@ -53,10 +50,9 @@ fn read_draft(heap: Global, sheet: &[u8]) -> Result<Draft, LoadError>
 
 // The port that a sheet tells.
 fn read_port(heap: Global, sheet: &[u8]) -> Result<Port, LoadError>
-    ensures { PortTold sheet.now result }
+    ensures { Tells (λ p. held (model_of p)) (reading sheet.now) result }
 {
-    let draft = read_draft(heap, sheet)?;
-    Ok(seal(draft))
+    Ok(seal(read_draft(heap, sheet)?))
 }
 
 // Puts the sheet's port in place of the one held. A sheet that is refused leaves that one as it was,
