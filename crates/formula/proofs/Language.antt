@@ -3,7 +3,8 @@
 use Rattle.std.proofs.Common.{◌≡◌, ℕ, zero, suc, ◌+◌, ◌-◌, ◌<◌, ◌≤◌, Bool, true, false, List, [], ◌∷◌, ◌++◌, length, get_or, take, drop, sym, refl, ap, ◌∙◌, subst, add-one, arith}
 use native.Mathlib.Decide.{ℕ_discrete, dec_le, dec_lt}
 use Rattle.formula.specs.Grammar.{verdict, goes, step, to, refuse, opens, after, stuck, whole, Whole, NoFormula, Refused, SumRead, Formula, Part, atom, sum, nought, one, mark, not, group, single, and, only, or, flip, stands}
-use Rattle.formula.proofs.Steps.{drop_all, at, at_opens, at_after, goes_to, goes_refuse, goes_end, goes_open, step_nought, step_one, step_not, step_group, step_mark, step_high, step_low, step_and, step_or, step_close, step_other, step_past}
+use Rattle.std.proofs.lemmas.List.{drop_all}
+use Rattle.formula.proofs.Steps.{at, at_opens, at_after, goes_to, goes_refuse, goes_end, goes_open, step_nought, step_one, step_not, step_group, step_mark, step_high, step_low, step_and, step_or, step_close, step_other, step_past}
 
 goes_whole : (n p : ℕ) → goes n false 0 [] p ≡ whole
 unfolding goes

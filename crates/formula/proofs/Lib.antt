@@ -1,3 +1,4 @@
+pub mod Exits
 pub mod Steps
 pub mod Language
 pub mod Truths

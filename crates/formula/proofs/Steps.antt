@@ -1,13 +1,9 @@
 -- One step of the reading by bytes, and what a reader has read after it. Assumes nothing.
-use Rattle.std.proofs.Common.{◌≡◌, ℕ, zero, suc, ◌+◌, ◌-◌, ◌<◌, ◌≤◌, Bool, true, false, List, [], ◌∷◌, length, get_or, drop, sym, refl, ap, ◌∙◌, add-one, arith, drop-cons, le-ltb, lt-ltb, ne_eqb, le-leb}
-use borrow.Author.Tests.{lt-leb, clash}
+use Rattle.std.proofs.Common.{◌≡◌, ℕ, zero, suc, ◌+◌, ◌-◌, ◌<◌, ◌≤◌, Bool, true, false, List, [], ◌∷◌, length, get_or, drop, refl, ap, ◌∙◌, add-one, arith, drop-cons, le-ltb, lt-ltb, ne_eqb, le-leb}
+use native.Mathlib.Decide.{dec_lt}
+use borrow.Author.Tests.{lt-leb}
+use Rattle.std.proofs.lemmas.List.{drop_all}
 use Rattle.formula.specs.Grammar.{goes, step, to, refuse, opens, after, stuck, AtomRead, ProductRead, SumRead, Refused, nought, one, mark, not, group, single, and, only, or, both, some, flip, stands}
-
-pub drop_all : (i : ℕ) (t : List ℕ) → length t ≤ i → drop i t ≡ []
-drop_all zero [] h = refl
-drop_all zero (x ∷ t) h = absurd (omega arith)
-drop_all (suc i) [] h = refl
-drop_all (suc i) (x ∷ t) h = drop_all i t (omega arith)
 
 pub at : (t : List ℕ) (i : ℕ) → i < length t → drop i t ≡ get_or t i 0 ∷ drop (i + 1) t
 at t i h = rw add-one (drop-cons t i 0 h)
@@ -100,9 +96,9 @@ module _ (n m : ℕ) (t : List ℕ) (i : ℕ) where
   atom_one h e =
       record { on = omega arith; within = omega arith; read = one h e; went = λ d. at_opens h d ∙ goes_to n _ _ _ _ i (step_one n _ d e) }
 
-  pub atom_mark : i < length t → 97 ≤ get_or t i 0 → get_or t i 0 - 97 < n → AtomRead n m t i (stands m (get_or t i 0 - 97)) (i + 1)
-  atom_mark h l k =
-      record { on = omega arith; within = omega arith; read = mark (get_or t i 0 - 97) h (omega arith) k; went = λ d. at_opens h d ∙ goes_to n _ _ _ _ i (step_mark n _ d l k) }
+  pub atom_mark : (k : ℕ) → i < length t → get_or t i 0 ≡ 97 + k → k < n → AtomRead n m t i (stands m k) (i + 1)
+  atom_mark k h e l =
+      record { on = omega arith; within = omega arith; read = mark k h e l; went = λ d. at_opens h d ∙ goes_to n _ _ _ _ i (step_mark n _ d (omega arith) (omega arith)) }
 
   pub atom_not : {v : Bool} {j : ℕ} → i < length t → get_or t i 0 ≡ 33 → AtomRead n m t (i + 1) v j → AtomRead n m t i (flip v) j
   atom_not h e r =
@@ -155,6 +151,11 @@ module _ (n m : ℕ) (t : List ℕ) (i : ℕ) where
           went = λ d. at_opens h d ∙ goes_to n _ _ _ _ i (step_group n _ d e) ∙ r.went (suc d) ∙ ap (λ l. goes n false (suc d) l j) (at t j k) ∙ goes_refuse n _ _ _ _ j (step_other n _ (suc d) (r.no_and k) (r.no_or k) f);
         }
 
+    -- no bracket closes it there
+    pub refused_close : (j < length t → get_or t j 0 ≡ 41 → ⊥) → Refused n t i j
+    refused_close f =
+        elim (dec_lt j (length t)) [ yes k ↦ refused_other k (f k) | no k ↦ refused_unclosed (omega arith) ]
+
   pub product_single : {v : Bool} {j : ℕ} → AtomRead n m t i v j → (j < length t → get_or t j 0 ≡ 38 → ⊥) → ProductRead n m t i v j
   product_single r f = record { on = r.on; within = r.within; read = single r.read; went = r.went; no_and = f }
 
@@ -185,19 +186,3 @@ module _ (n m : ℕ) (t : List ℕ) (i : ℕ) where
     pub refused_or : {p : ℕ} → Refused n t (j + 1) p → Refused n t i p
     refused_or s =
         record { on = omega (arith, r.on, s.on); within = s.within; went = λ d. or_went d ∙ s.went d }
-
-pub both_then : (v w r : Bool) → v ≡ true → r ≡ w → r ≡ both v w
-both_then true w r e q = q
-both_then false w r e q = absurd (clash e)
-
-pub both_else : (v w r : Bool) → v ≡ false → r ≡ v → r ≡ both v w
-both_else true w r e q = absurd (clash (sym e))
-both_else false w r e q = q
-
-pub some_then : (v w r : Bool) → v ≡ true → r ≡ v → r ≡ some v w
-some_then true w r e q = q
-some_then false w r e q = absurd (clash e)
-
-pub some_else : (v w r : Bool) → v ≡ false → r ≡ w → r ≡ some v w
-some_else true w r e q = absurd (clash (sym e))
-some_else false w r e q = q

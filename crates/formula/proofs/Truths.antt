@@ -6,7 +6,8 @@ use lib.Bits.{bit_and}
 use Rattle.std.proofs.lemmas.Nat.{pow_pos, div_below}
 use Rattle.formula.specs.Grammar.{Part, atom, product, sum, Formula, Whole, Verdict, whole, stuck, verdict, nought, one, mark, not, group, single, and, only, or, both, some, stands}
 use Rattle.formula.specs.Truth.{Value, value, turned, joined, closed, followed, marked, read, held, truth, is_whole, is_formula}
-use Rattle.formula.proofs.Steps.{drop_all, at}
+use Rattle.std.proofs.lemmas.List.{drop_all}
+use Rattle.formula.proofs.Steps.{at}
 use Rattle.formula.proofs.Language.{complete, whole_verdict}
 
 -- ── one step of the reading ──

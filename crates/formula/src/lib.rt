@@ -1,12 +1,13 @@
 // The text of a formula: sums of products of atoms, over bytes. Readers of the three call each other.
 #![tactic(auto)]
 
-ghost use Rattle.std.specs.Prelude.{◌≡◌, ◌≤◌, true, false, length, MatchResult};
+ghost use Rattle.std.specs.Prelude.{◌≡◌, ◌≤◌, true, false, length, MatchOption, MatchResult};
 ghost use Rattle.formula.specs.Grammar.{
   AtomRead,
   NoFormula,
   ProductRead,
   Refused,
+  Stands,
   SumRead,
   Whole,
   stands,
@@ -14,6 +15,7 @@ ghost use Rattle.formula.specs.Grammar.{
   verdict,
   whole,
 };
+ghost use Rattle.std.specs.Bool.{MatchBool};
 ghost use Rattle.formula.specs.Truth.{is_formula, truth};
 
 // The first place where no formula goes on, or the end of a text that is the beginning of one.
@@ -29,82 +31,124 @@ fn stands_in(marks: u16, k: u8) -> bool
     k < 16 && marks >> k & 1 == 1
 }
 
-// The atom at `place`: 0, 1, a letter, an atom after `!`, or a sum in brackets; its value and the place after it.
-#[cycle(read_atom_read_product_read_sum)]
-fn read_atom(
-    text: &[u8],
+// A place in a text over `count` marks, of which `marks` stand.
+#[derive(Clone, Copy)]
+struct Spot<'a> {
+    text: &'a [u8],
     count: u8,
     marks: u16,
     place: usize,
-) -> Result<(bool, usize), FormulaFault>
-    requires { place ≤ length text.now }
-    ensures { MatchResult result (λ x. AtomRead count marks text.now place x.0 x.1) (λ e. Refused count text.now place e.place) }
-{
-    if place >= text.len() {
-        return Err(FormulaFault { place });
-    }
-    let b = text[place];
-    if b == b'0' {
-        return Ok((false, place + 1));
-    }
-    if b == b'1' {
-        return Ok((true, place + 1));
-    }
-    if b == b'!' {
-        let (value, after) = read_atom(text, count, marks, place + 1)?;
-        return Ok((!value, after));
-    }
-    if b == b'(' {
-        let (value, after) = read_sum(text, count, marks, place + 1)?;
-        if after < text.len() && text[after] == b')' {
-            return Ok((value, after + 1));
+    ghost within: { place ≤ length text.now },
+}
+
+impl<'a> Spot<'a> {
+    // Another place in the text.
+    fn at(self, place: usize) -> Spot<'a>
+        requires { place ≤ length self.text.now }
+        ensures text { result.text.now ≡ self.entry.text.now }
+        ensures count { result.count ≡ self.entry.count }
+        ensures marks { result.marks ≡ self.entry.marks }
+        ensures place { result.place ≡ place }
+    {
+        Spot {
+            text: self.text,
+            count: self.count,
+            marks: self.marks,
+            place,
         }
-        return Err(FormulaFault { place: after });
     }
-    if b >= b'a' && b - b'a' < count {
-        return Ok((stands_in(marks, b - b'a'), place + 1));
-    }
-    Err(FormulaFault { place })
-}
 
-// The longest product at `place`: atoms with `&` between them.
-#[cycle(read_atom_read_product_read_sum)]
-fn read_product(
-    text: &[u8],
-    count: u8,
-    marks: u16,
-    place: usize,
-) -> Result<(bool, usize), FormulaFault>
-    requires { place ≤ length text.now }
-    ensures { MatchResult result (λ x. ProductRead count marks text.now place x.0 x.1) (λ e. Refused count text.now place e.place) }
-{
-    let (value, after) = read_atom(text, count, marks, place)?;
-    if after < text.len() && text[after] == b'&' {
-        let (more, end) = read_product(text, count, marks, after + 1)?;
-        return Ok((value && more, end));
+    // The byte that stands here, or none at the end.
+    fn byte(self) -> Option<u8>
+        ensures { MatchOption result (length self.entry.text.now ≤ self.entry.place) (Stands self.entry.text.now self.entry.place) }
+    {
+        self.text.get(self.place).copied()
     }
-    Ok((value, after))
-}
 
-// The longest sum at `place`: products with `|` between them.
-#[cycle(read_atom_read_product_read_sum)]
-fn read_sum(text: &[u8], count: u8, marks: u16, place: usize) -> Result<(bool, usize), FormulaFault>
-    requires { place ≤ length text.now }
-    ensures { MatchResult result (λ x. SumRead count marks text.now place x.0 x.1) (λ e. Refused count text.now place e.place) }
-{
-    let (value, after) = read_product(text, count, marks, place)?;
-    if after < text.len() && text[after] == b'|' {
-        let (more, end) = read_sum(text, count, marks, after + 1)?;
-        return Ok((value || more, end));
+    // Whether this byte stands at that place.
+    fn has(self, place: usize, byte: u8) -> bool
+        ensures { MatchBool result (Stands self.entry.text.now place byte) (Stands self.entry.text.now place byte → ⊥) }
+    {
+        self.text.get(place) == Some(&byte)
     }
-    Ok((value, after))
+
+    // The atom that stands here: 0, 1, a letter, an atom after `!`, or a sum in brackets; its value and the place after it.
+    #[cycle(read_atom_read_product_read_sum)]
+    fn read_atom(self) -> Result<(bool, usize), FormulaFault>
+        ensures { MatchResult result (λ x. AtomRead self.entry.count self.entry.marks self.entry.text.now self.entry.place x.0 x.1) (λ e. Refused self.entry.count self.entry.text.now self.entry.place e.place) }
+    {
+        let Some(byte) = self.byte() else {
+            return Err(FormulaFault { place: self.place });
+        };
+        let next = self.place + 1;
+        match byte {
+            b'0' => Ok((false, next)),
+            b'1' => Ok((true, next)),
+            b'!' => {
+                let (value, after) = self.at(next).read_atom()?;
+                Ok((!value, after))
+            }
+            b'(' => {
+                let (value, after) = self.at(next).read_sum()?;
+                if self.has(after, b')') {
+                    Ok((value, after + 1))
+                } else {
+                    Err(FormulaFault { place: after })
+                }
+            }
+            b'a'..=u8::MAX => {
+                let mark = byte - b'a';
+                if mark < self.count {
+                    Ok((stands_in(self.marks, mark), next))
+                } else {
+                    Err(FormulaFault { place: self.place })
+                }
+            }
+            _ => Err(FormulaFault { place: self.place }),
+        }
+    }
+
+    // Stays: two readers of one form, for products and for sums. One for both would ask at each of its three steps
+    // which it is, or take the step as a closure, through which no cycle of calls is proved.
+
+    // The longest product from here on: atoms with `&` between them.
+    #[cycle(read_atom_read_product_read_sum)]
+    fn read_product(self) -> Result<(bool, usize), FormulaFault>
+        ensures { MatchResult result (λ x. ProductRead self.entry.count self.entry.marks self.entry.text.now self.entry.place x.0 x.1) (λ e. Refused self.entry.count self.entry.text.now self.entry.place e.place) }
+    {
+        let (value, after) = self.read_atom()?;
+        if self.has(after, b'&') {
+            let (more, end) = self.at(after + 1).read_product()?;
+            return Ok((value && more, end));
+        }
+        Ok((value, after))
+    }
+
+    // The longest sum from here on: products with `|` between them.
+    #[cycle(read_atom_read_product_read_sum)]
+    fn read_sum(self) -> Result<(bool, usize), FormulaFault>
+        ensures { MatchResult result (λ x. SumRead self.entry.count self.entry.marks self.entry.text.now self.entry.place x.0 x.1) (λ e. Refused self.entry.count self.entry.text.now self.entry.place e.place) }
+    {
+        let (value, after) = self.read_product()?;
+        if self.has(after, b'|') {
+            let (more, end) = self.at(after + 1).read_sum()?;
+            return Ok((value || more, end));
+        }
+        Ok((value, after))
+    }
 }
 
 // The value of the formula on the marks, or the first place where no formula goes on.
 pub fn evaluate(text: &[u8], count: u8, marks: u16) -> Result<bool, FormulaFault>
     ensures { MatchResult result (λ v. Whole count marks text.now v × (v ≡ truth count marks text.now) × (is_formula count text.now ≡ true)) (λ e. NoFormula count text.now e.place × (verdict count text.now ≡ stuck e.place) × (is_formula count text.now ≡ false)) }
 {
-    let (value, end) = read_sum(text, count, marks, 0)?;
+    let start = Spot {
+        text,
+        count,
+        marks,
+        place: 0,
+    };
+    let (value, end) = start.read_sum()?;
     if end < text.len() {
         return Err(FormulaFault { place: end });
     }

@@ -1,5 +1,5 @@
 use Rattle.std.proofs.Common.{◌≡◌, length, sym, subst, arith}
-use Rattle.std.proofs.lemmas.Result.{err_from_is_err_and}
+use Rattle.formula.proofs.Exits.{exit}
 use Rattle.formula.specs.Grammar.{Whole, Formula, sum}
 use Rattle.formula.proofs.Language.{no_formula_by, no_formula_past, verdict_by, verdict_past}
 use Rattle.formula.proofs.Truths.{whole_truth, whole_formula, stuck_no_formula}
@@ -7,10 +7,9 @@ use Rattle.formula.proofs.evaluate.Goals as goal
 
 pub returns-in_err-value : goal.returns-in_err-value
 returns-in_err-value c =
-    let p = err_from_is_err_and c.from_residual.result c.from_residual.ensures.1 in
     let r = c.in_err-value.ensures in
     let v = verdict_by _ _ _ r in
-    rw (p.1, p.2) (no_formula_by _ _ _ r, v, stuck_no_formula _ _ _ v)
+    rw (exit _ c.from_residual.ensures.1) (no_formula_by _ _ _ r, v, stuck_no_formula _ _ _ v)
 
 pub returns-then-end-text : goal.returns-then-end-text
 returns-then-end-text c =
