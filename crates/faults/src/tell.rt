@@ -14,6 +14,8 @@ ghost use Rattle.faults.specs.Faults.{
 
 use crate::layers::{ByteFault, PortFault, RecordFault};
 
+// Stays: `number`, since a refusal is told by its number. It is no discriminant, for a fault that is carried keeps its own.
+
 // The layers, by their numbers.
 #[derive(Clone, Copy, Debug, PartialEq)]
 enum Layer {
@@ -68,7 +70,8 @@ impl RecordFault {
         match self {
             RecordFault::Byte(fault) => fault.place(),
             RecordFault::Formula(fault) => fault.place,
-            RecordFault::Kind(place) | RecordFault::Map(place) | RecordFault::Absent(place) => place,
+            RecordFault::Kind(place) | RecordFault::Map(place) | RecordFault::Absent(place) =>
+                place,
         }
     }
 

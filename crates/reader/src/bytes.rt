@@ -34,7 +34,7 @@ impl<'a> Reader<'a> {
     }
 
     // The next `n` bytes.
-    pub fn next_bytes(&mut self, n: usize) -> Result<&'a [u8], ByteFault>
+    pub(crate) fn next_bytes(&mut self, n: usize) -> Result<&'a [u8], ByteFault>
         ensures { Reads (bytes n) (λ x. x.now) (λ e. Record (Byte e)) self.old self.new result }
     {
         let rest = self.rest;

@@ -12,8 +12,8 @@ use faults::{PortFault, RecordFault};
 // The most bytes of a text.
 const TEXT_BYTES: u8 = 63;
 
-// Stays: `present` says of a field that may be absent whether it is there. To leave the test to the callers would
-// write an `if` and the absent value beside each of their eight fields, which is no plainer.
+// Stays: `present` says whether a field that may be absent is there. A caller that tested it would write the absent
+// value, and the place that stands for it, beside each call.
 impl<'a> Reader<'a> {
     // A number of one byte, which is not 0 where it is present.
     pub(crate) fn next_number(&mut self, present: bool) -> Result<u8, RecordFault>

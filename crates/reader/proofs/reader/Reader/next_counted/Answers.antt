@@ -1,14 +1,13 @@
 use Rattle.std.proofs.Common.{sym, ◌∙◌}
-use Rattle.std.proofs.lemmas.Result.{err_from_is_err_and}
+use Rattle.formula.proofs.Exits.{exit}
 use Rattle.reading.proofs.Steps.{then_got, then_fault, passed, failed, byte_place, counted as from_one}
 use Rattle.reader.specs.Reads.{counted}
 use Rattle.reader.proofs.reader.Reader.next_counted.Goals as goal
 
-pub returns-in_err-value : goal.returns-in_err-value
+pub returns-in_err-value-clause-read : goal.returns-in_err-value-clause-read
 unfolding counted
-returns-in_err-value c =
-    let p = err_from_is_err_and c.from_residual.result c.from_residual.ensures.1 in
-    record { read = rw (p.1, p.2) (then_fault _ c.in_err-value.ensures); limits = rw p.1 tt }
+returns-in_err-value-clause-read c =
+    rw (exit _ c.from_residual.ensures.1) (then_fault _ c.in_err-value.ensures)
 
 pub returns-then-not-is_count : goal.returns-then-not-is_count
 unfolding counted

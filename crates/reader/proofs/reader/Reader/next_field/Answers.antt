@@ -1,5 +1,5 @@
 use Rattle.std.proofs.Common.{◌≡◌, cond, ap, ◌∙◌, arith, le-ltb, lt-ltb}
-use Rattle.std.proofs.lemmas.Result.{err_from_is_err_and}
+use Rattle.formula.proofs.Exits.{exit}
 use Rattle.faults.specs.declared.layers.PortFault.TheVariants.{Missing}
 use Rattle.reading.specs.Reading.{field, fault}
 use Rattle.reading.proofs.Steps.{then_got, then_fault, passed, failed, place_here, place_there}
@@ -9,8 +9,7 @@ use Rattle.reader.proofs.reader.Reader.next_field.Goals.{then-present, else-pres
 pub returns-in_err-value : goal.returns-in_err-value
 unfolding field
 returns-in_err-value c =
-    let p = err_from_is_err_and c.from_residual.result c.from_residual.ensures.1 in
-    rw (p.1, p.2) (then_fault _ c.in_err-value.ensures)
+    rw (exit _ c.from_residual.ensures.1) (then_fault _ c.in_err-value.ensures)
 
 pub returns-then-value-limit : goal.returns-then-value-limit
 unfolding field

@@ -1,5 +1,5 @@
 use Rattle.std.proofs.Common.{◌≡◌, ◌+◌, ◌*◌, refl, ◌∙◌, arith, le-ltb, lt-ltb}
-use Rattle.std.proofs.lemmas.Result.{err_from_is_err_and}
+use Rattle.formula.proofs.Exits.{exit}
 use Rattle.reading.specs.Reading.{minutes}
 use Rattle.reading.proofs.Steps.{then_got, then_fault, passed, failed}
 use Rattle.reader.proofs.reader.Reader.next_minutes.Goals as goal
@@ -11,14 +11,12 @@ returns-then-not-present c = rw c.if-not-present.true refl
 pub returns-in_err-high : goal.returns-in_err-high
 unfolding minutes
 returns-in_err-high c =
-    let p = err_from_is_err_and c.from_residual.result c.from_residual.ensures.1 in
-    rw (p.1, p.2, c.if-not-present.false) (then_fault _ c.in_err-high.ensures)
+    rw (exit _ c.from_residual.ensures.1, c.if-not-present.false) (then_fault _ c.in_err-high.ensures)
 
 pub returns-in_err-low : goal.returns-in_err-low
 unfolding minutes
 returns-in_err-low c =
-    let p = err_from_is_err_and c.from_residual-in_err-low.result c.from_residual-in_err-low.ensures.1 in
-    rw (p.1, p.2, c.if-not-present.false) (then_got _ c.in_ok-high.ensures ∙ then_fault _ c.in_err-low.ensures)
+    rw (exit _ c.from_residual-in_err-low.ensures.1, c.if-not-present.false) (then_got _ c.in_ok-high.ensures ∙ then_fault _ c.in_err-low.ensures)
 
 pub returns-then-minutes-eq0 : goal.returns-then-minutes-eq0
 unfolding minutes

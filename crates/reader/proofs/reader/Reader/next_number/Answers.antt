@@ -1,5 +1,5 @@
 use Rattle.std.proofs.Common.{refl, ◌∙◌, arith, le-ltb, lt-ltb}
-use Rattle.std.proofs.lemmas.Result.{err_from_is_err_and}
+use Rattle.formula.proofs.Exits.{exit}
 use Rattle.reading.specs.Reading.{number}
 use Rattle.reading.proofs.Steps.{then_got, then_fault, passed, failed}
 use Rattle.reader.proofs.reader.Reader.next_number.Goals as goal
@@ -11,8 +11,7 @@ returns-then-not-present c = rw c.if-not-present.true refl
 pub returns-in_err-value : goal.returns-in_err-value
 unfolding number
 returns-in_err-value c =
-    let p = err_from_is_err_and c.from_residual.result c.from_residual.ensures.1 in
-    rw (p.1, p.2, c.if-not-present.false) (then_fault _ c.in_err-value.ensures)
+    rw (exit _ c.from_residual.ensures.1, c.if-not-present.false) (then_fault _ c.in_err-value.ensures)
 
 pub returns-then-value-eq0 : goal.returns-then-value-eq0
 unfolding number

@@ -1,5 +1,5 @@
 use Rattle.std.proofs.Common.{sym, ap, ◌∙◌}
-use Rattle.std.proofs.lemmas.Result.{err_from_is_err_and}
+use Rattle.formula.proofs.Exits.{exit}
 use Rattle.reading.specs.Reading.{opening, same}
 use Rattle.reading.proofs.Steps.{then_got, then_fault, passed, failed}
 use Rattle.reader.proofs.reader.Reader.next_opening.Goals as goal
@@ -7,8 +7,7 @@ use Rattle.reader.proofs.reader.Reader.next_opening.Goals as goal
 pub returns-in_err-bytes : goal.returns-in_err-bytes
 unfolding opening
 returns-in_err-bytes c =
-    let p = err_from_is_err_and c.from_residual.result c.from_residual.ensures.1 in
-    rw (p.1, p.2) (then_fault _ c.in_err-bytes.ensures)
+    rw (exit _ c.from_residual.ensures.1) (then_fault _ c.in_err-bytes.ensures)
 
 pub returns-then-not-is_same : goal.returns-then-not-is_same
 unfolding opening

@@ -1,5 +1,5 @@
 use Rattle.std.proofs.Common.{◌∙◌, arith, le-ltb, lt-ltb}
-use Rattle.std.proofs.lemmas.Result.{err_from_is_err_and}
+use Rattle.formula.proofs.Exits.{exit}
 use Rattle.reading.specs.Reading.{start_stage}
 use Rattle.reading.proofs.Steps.{then_got, then_fault, passed, failed}
 use Rattle.reader.proofs.reader.Reader.next_start_stage.Goals as goal
@@ -7,8 +7,7 @@ use Rattle.reader.proofs.reader.Reader.next_start_stage.Goals as goal
 pub returns-in_err-value : goal.returns-in_err-value
 unfolding start_stage
 returns-in_err-value c =
-    let p = err_from_is_err_and c.from_residual.result c.from_residual.ensures.1 in
-    rw (p.1, p.2) (then_fault _ c.in_err-value.ensures)
+    rw (exit _ c.from_residual.ensures.1) (then_fault _ c.in_err-value.ensures)
 
 pub returns-then-value-stages : goal.returns-then-value-stages
 unfolding start_stage

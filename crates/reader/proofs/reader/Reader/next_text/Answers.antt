@@ -1,5 +1,5 @@
 use Rattle.std.proofs.Common.{refl, ◌∙◌}
-use Rattle.std.proofs.lemmas.Result.{err_from_is_err_and}
+use Rattle.formula.proofs.Exits.{exit}
 use Rattle.reading.specs.Reading.{text}
 use Rattle.reading.proofs.Steps.{then_got, then_fault, moved_whole, moved_stuck}
 use Rattle.reader.proofs.reader.Reader.next_text.Goals as goal
@@ -11,14 +11,12 @@ returns-then-not-present c = rw c.if-not-present.true refl
 pub returns-in_err-text : goal.returns-in_err-text
 unfolding text
 returns-in_err-text c =
-    let p = err_from_is_err_and c.from_residual.result c.from_residual.ensures.1 in
-    rw (p.1, p.2, c.if-not-present.false) (then_fault _ c.in_err-text.ensures.read)
+    rw (exit _ c.from_residual.ensures.1, c.if-not-present.false) (then_fault _ c.in_err-text.ensures.read)
 
 pub returns-in_err-check : goal.returns-in_err-check
 unfolding text
 returns-in_err-check c =
-    let p = err_from_is_err_and c.from_residual-in_err-check.result c.from_residual-in_err-check.ensures.1 in
-    rw (p.1, p.2, c.if-not-present.false) (then_got _ c.in_ok-text.ensures.read ∙ moved_stuck _ _ _ _ c.in_ok-text.ensures.stands c.in_err-check.ensures _)
+    rw (exit _ c.from_residual-in_err-check.ensures.1, c.if-not-present.false) (then_got _ c.in_ok-text.ensures.read ∙ moved_stuck _ _ _ _ c.in_ok-text.ensures.stands c.in_err-check.ensures _)
 
 pub returns : goal.returns
 unfolding text

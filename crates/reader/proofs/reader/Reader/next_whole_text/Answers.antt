@@ -1,21 +1,19 @@
 use Rattle.std.proofs.Common.{sym, ap, ◌∙◌, arith}
-use Rattle.std.proofs.lemmas.Result.{err_from_is_err_and}
+use Rattle.formula.proofs.Exits.{exit}
 use Rattle.reading.specs.Reading.{whole_text, text_length, denied}
 use Rattle.reader.specs.Reads.{counted}
 use Rattle.reading.proofs.Steps.{then_got, then_fault, passed, failed, bytes_place}
 use Rattle.reader.proofs.reader.Reader.next_whole_text.Goals as goal
 
-pub returns-in_err-length : goal.returns-in_err-length
+pub returns-in_err-length-clause-read : goal.returns-in_err-length-clause-read
 unfolding whole_text text_length counted
-returns-in_err-length c =
-    let p = err_from_is_err_and c.from_residual.result c.from_residual.ensures.1 in
-    record { read = rw (p.1, p.2) (then_fault _ c.in_err-length.ensures.read); stands = rw p.1 tt }
+returns-in_err-length-clause-read c =
+    rw (exit _ c.from_residual.ensures.1) (then_fault _ c.in_err-length.ensures.read)
 
-pub returns-in_err-bytes : goal.returns-in_err-bytes
+pub returns-in_err-bytes-clause-read : goal.returns-in_err-bytes-clause-read
 unfolding whole_text text_length counted
-returns-in_err-bytes c =
-    let p = err_from_is_err_and c.from_residual-in_err-bytes.result c.from_residual-in_err-bytes.ensures.1 in
-    record { read = rw (p.1, p.2) (then_got _ c.in_ok-length.ensures.read ∙ then_fault _ c.in_err-bytes.ensures); stands = rw p.1 tt }
+returns-in_err-bytes-clause-read c =
+    rw (exit _ c.from_residual-in_err-bytes.ensures.1) (then_got _ c.in_ok-length.ensures.read ∙ then_fault _ c.in_err-bytes.ensures)
 
 pub returns-then-is_same : goal.returns-then-is_same
 unfolding whole_text text_length counted
