@@ -1,3 +1,4 @@
 pub mod Kinds
 pub mod Entries
 pub mod Drafts
+pub mod Admission

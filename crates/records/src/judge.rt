@@ -2,6 +2,7 @@
 ghost use Rattle.std.specs.Prelude.{◌≡◌, map as mapped, length, IfOk, MatchResult, nat_lt};
 ghost use Rattle.port.specs.Limits.{key};
 ghost use Rattle.reader.specs.Reads.{Reads, itself};
+ghost use Rattle.records.specs.Admission.{admission};
 ghost use Rattle.records.specs.Drafts.{draft_model};
 ghost use Rattle.records.specs.Kinds.{kind_number};
 ghost use Rattle.reading.specs.Reading.{Step, Head, fault, empty, heading, follows, room, admitted, rises};
@@ -57,20 +58,27 @@ impl Draft {
         }
     }
 
-    // The kind of the byte at this place, if a record of that kind may come next and there is room for it.
-    pub(crate) fn admit(&self, byte: u8, place: usize) -> Result<Kind, PortFault>
-        ensures { MatchResult result (λ k. (byte ≡ kind_number k) × ((x : Step Head) → admitted (draft_model self.now) byte place x ≡ x)) (λ e. (x : Step Head) → admitted (draft_model self.now) byte place x ≡ fault e) }
+    // A kind that may not come next is refused before one that there is no room for.
+    fn check_next(&self, kind: Kind, place: usize) -> Result<(), PortFault>
+        ensures { result ≡ admission (draft_model self.now) (kind_number kind) place }
     {
-        let unknown = PortFault::Record(RecordFault::Kind(place));
-        let Ok(kind) = Kind::try_from(byte) else {
-            return Err(unknown);
-        };
         if !self.follows(kind) {
-            return Err(unknown);
+            return Err(PortFault::Record(RecordFault::Kind(place)));
         }
         if !self.has_room(kind) {
             return Err(PortFault::Many(place));
         }
+        Ok(())
+    }
+
+    // The kind of the byte at this place, if a record of that kind may come next and there is room for it.
+    pub(crate) fn admit(&self, byte: u8, place: usize) -> Result<Kind, PortFault>
+        ensures { MatchResult result (λ k. (byte ≡ kind_number k) × ((x : Step Head) → admitted (draft_model self.now) byte place x ≡ x)) (λ e. (x : Step Head) → admitted (draft_model self.now) byte place x ≡ fault e) }
+    {
+        let Ok(kind) = Kind::try_from(byte) else {
+            return Err(PortFault::Record(RecordFault::Kind(place)));
+        };
+        self.check_next(kind, place)?;
         Ok(kind)
     }
 

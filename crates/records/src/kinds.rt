@@ -1,7 +1,7 @@
 // The kinds of records.
 ghost use Rattle.std.specs.Prelude.{◌≡◌, ◌^◌, ◌<◌, nat_lt};
 ghost use Rattle.reading.specs.Reading.{map_limit};
-ghost use Rattle.records.specs.Kinds.{Decodes, kind_number};
+ghost use Rattle.records.specs.Kinds.{Decodes, bit_number, kind_number};
 
 // The kinds, by the bytes that stand for them.
 #[derive(Clone, Copy, Debug, PartialEq)]
@@ -9,6 +9,25 @@ pub enum Kind {
     Condition = 1,
     Move = 2,
     Request = 3,
+}
+
+// The bits of a map, from the lowest. Each tells whether a field is there.
+#[derive(Clone, Copy, Debug, PartialEq)]
+pub(crate) enum Bit {
+    First,
+    Second,
+    Third,
+    Fourth,
+}
+
+impl Bit {
+    // Which bit it is.
+    pub(crate) fn number(self) -> u8
+        ensures few { result < 8 }
+        ensures bit { result ≡ bit_number self }
+    {
+        self as u8
+    }
 }
 
 // A byte that stands for no kind.

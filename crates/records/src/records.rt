@@ -1,12 +1,13 @@
 // The records of a sheet, each read against the port as far as it is known.
-ghost use Rattle.std.specs.Prelude.{◌≡◌, ◌<◌};
+ghost use Rattle.std.specs.Prelude.{◌≡◌};
 ghost use Rattle.records.specs.Drafts.{draft_model};
+ghost use Rattle.records.specs.Kinds.{bit_number};
 ghost use Rattle.records.specs.Entries.{entry_of, head_of, request_at};
 ghost use Rattle.reading.specs.Reading.{low_limit, high_limit, condition as condition_read, move as move_read, request as request_read, head as head_read, present, entry as entry_read, field, text};
 ghost use Rattle.reader.specs.Reads.{Reads, itself};
 
 use crate::draft::Draft;
-use crate::kinds::Kind;
+use crate::kinds::{Bit, Kind};
 use faults::{PortFault, RecordFault};
 use port::Move;
 use reader::Reader;
@@ -39,30 +40,22 @@ pub struct Head {
 
 impl Head {
     // Whether the field of this bit is there.
-    fn has(self, bit: u8) -> bool
-        requires { bit < 8 }
-        ensures { result ≡ present self.map bit }
+    fn has(self, bit: Bit) -> bool
+        ensures { result ≡ present self.map (bit_number bit) }
     {
-        (self.map >> bit) & 1 == 1
+        (self.map >> bit.number()) & 1 == 1
     }
 
     // The field of this bit: a number below a limit.
-    fn field(self, reader: &mut Reader, bit: u8, limit: usize) -> Result<u8, PortFault>
-        requires { bit < 8 }
-        ensures { Reads (field (present self.map bit) self.map_place limit) itself itself reader.old reader.new result }
+    fn field(self, reader: &mut Reader, bit: Bit, limit: usize) -> Result<u8, PortFault>
+        ensures { Reads (field (present self.map (bit_number bit)) self.map_place limit) itself itself reader.old reader.new result }
     {
         reader.next_field(self.has(bit), self.map_place, limit)
     }
 
     // The field of this bit: a text over the marks.
-    fn text<'a>(
-        self,
-        reader: &mut Reader<'a>,
-        bit: u8,
-        marks: u8,
-    ) -> Result<&'a [u8], PortFault>
-        requires { bit < 8 }
-        ensures { Reads (text (present self.map bit) marks) (λ t. t.now) itself reader.old reader.new result }
+    fn text<'a>(self, reader: &mut Reader<'a>, bit: Bit, marks: u8) -> Result<&'a [u8], PortFault>
+        ensures { Reads (text (present self.map (bit_number bit)) marks) (λ t. t.now) itself reader.old reader.new result }
     {
         reader.next_text(self.has(bit), marks)
     }
@@ -111,8 +104,8 @@ fn read_head(reader: &mut Reader, draft: &Draft) -> Result<Head, PortFault>
 fn read_condition(reader: &mut Reader, draft: &Draft, head: Head) -> Result<u16, PortFault>
     ensures { Reads (condition_read (draft_model draft.now) head.place head.map_place head.map) itself itself reader.old reader.new result }
 {
-    let low = head.field(reader, 0, draft.low_limit())?;
-    let high = head.field(reader, 1, draft.high_limit())?;
+    let low = head.field(reader, Bit::First, draft.low_limit())?;
+    let high = head.field(reader, Bit::Second, draft.high_limit())?;
     let condition = u16::from_le_bytes([low, high]);
     if !draft.condition_rises(condition) {
         return Err(PortFault::Sequence(head.place));
@@ -126,10 +119,10 @@ fn read_move(reader: &mut Reader, draft: &Draft, head: Head) -> Result<Move, Por
 {
     let conditions = draft.conditions.len();
     let operations = draft.header.operations as usize;
-    let condition = head.field(reader, 0, conditions)?;
-    let operation = head.field(reader, 1, operations)?;
-    let outcome = head.field(reader, 2, conditions)?;
-    let minutes = reader.next_minutes(head.has(3))?;
+    let condition = head.field(reader, Bit::First, conditions)?;
+    let operation = head.field(reader, Bit::Second, operations)?;
+    let outcome = head.field(reader, Bit::Third, conditions)?;
+    let minutes = reader.next_minutes(head.has(Bit::Fourth))?;
     let found = Move {
         condition,
         operation,
@@ -152,10 +145,10 @@ fn read_request<'a>(
 {
     let stages = draft.header.stages as usize;
     let marks = draft.header.marks;
-    let from = head.field(reader, 0, stages)?;
-    let to = head.field(reader, 1, stages)?;
-    let keep = head.text(reader, 2, marks)?;
-    let reach = head.text(reader, 3, marks)?;
+    let from = head.field(reader, Bit::First, stages)?;
+    let to = head.field(reader, Bit::Second, stages)?;
+    let keep = head.text(reader, Bit::Third, marks)?;
+    let reach = head.text(reader, Bit::Fourth, marks)?;
     Ok(RequestAt {
         from,
         to,

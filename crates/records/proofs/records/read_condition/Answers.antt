@@ -1,5 +1,5 @@
 use Rattle.std.proofs.Common.{◌≡◌, ◌+◌, ◌*◌, refl, sym, ◌∙◌, arith}
-use Rattle.std.proofs.lemmas.Result.{err_from_is_err_and}
+use Rattle.formula.proofs.Exits.{exit}
 use Rattle.reading.specs.Reading.{condition}
 use Rattle.reading.proofs.Steps.{then_got, then_fault, passed, failed, field_told}
 use Rattle.records.proofs.records.read_condition.Goals as goal
@@ -7,14 +7,12 @@ use Rattle.records.proofs.records.read_condition.Goals as goal
 pub returns-in_err-low : goal.returns-in_err-low
 unfolding condition
 returns-in_err-low c =
-    let p = err_from_is_err_and c.from_residual.result c.from_residual.ensures.1 in
-    rw (p.1, p.2) (then_fault _ (field_told _ _ _ refl c.low_limit.ensures c.in_err-low.ensures))
+    rw (exit _ c.from_residual.ensures.1) (then_fault _ (field_told _ _ _ refl c.low_limit.ensures c.in_err-low.ensures))
 
 pub returns-in_err-high : goal.returns-in_err-high
 unfolding condition
 returns-in_err-high c =
-    let p = err_from_is_err_and c.from_residual-in_err-high.result c.from_residual-in_err-high.ensures.1 in
-    rw (p.1, p.2) (then_got _ (field_told _ _ _ refl c.low_limit.ensures c.in_ok-low.ensures)
+    rw (exit _ c.from_residual-in_err-high.ensures.1) (then_got _ (field_told _ _ _ refl c.low_limit.ensures c.in_ok-low.ensures)
     ∙ then_fault _ (field_told _ _ _ refl c.high_limit.ensures c.in_err-high.ensures))
 
 pub returns-then-not-condition_rises : goal.returns-then-not-condition_rises

@@ -1,5 +1,5 @@
 use Rattle.std.proofs.Common.{ltb, sym, ap, ◌∙◌}
-use Rattle.std.proofs.lemmas.Result.{err_from_is_err_and}
+use Rattle.formula.proofs.Exits.{exit}
 use Rattle.reading.specs.Reading.{head, map_limit}
 use Rattle.reading.proofs.Steps.{then_got, then_fault, passed, failed}
 use Rattle.records.proofs.records.read_head.Goals as goal
@@ -7,20 +7,17 @@ use Rattle.records.proofs.records.read_head.Goals as goal
 pub returns-in_err-byte : goal.returns-in_err-byte
 unfolding head
 returns-in_err-byte c =
-    let p = err_from_is_err_and c.from_residual.result c.from_residual.ensures.1 in
-    rw (p.1, p.2) (then_fault _ c.in_err-byte.ensures)
+    rw (exit _ c.from_residual.ensures.1) (then_fault _ c.in_err-byte.ensures)
 
 pub returns-in_err-kind : goal.returns-in_err-kind
 unfolding head
 returns-in_err-kind c =
-    let p = err_from_is_err_and c.from_residual-in_err-kind.result c.from_residual-in_err-kind.ensures.1 in
-    rw (p.1, p.2) (then_got _ c.in_ok-byte.ensures ∙ c.in_err-kind.ensures _)
+    rw (exit _ c.from_residual-in_err-kind.ensures.1) (then_got _ c.in_ok-byte.ensures ∙ c.in_err-kind.ensures _)
 
 pub returns-in_err-map : goal.returns-in_err-map
 unfolding head
 returns-in_err-map c =
-    let p = err_from_is_err_and c.from_residual-in_err-map.result c.from_residual-in_err-map.ensures.1 in
-    rw (p.1, p.2) (then_got _ c.in_ok-byte.ensures ∙ c.in_ok-kind.ensures.1 _ ∙ then_fault _ c.in_err-map.ensures)
+    rw (exit _ c.from_residual-in_err-map.ensures.1) (then_got _ c.in_ok-byte.ensures ∙ c.in_ok-kind.ensures.1 _ ∙ then_fault _ c.in_err-map.ensures)
 
 pub returns-then-not-has_fields : goal.returns-then-not-has_fields
 unfolding head

@@ -1,5 +1,5 @@
 use Rattle.std.proofs.Common.{ap, ◌∙◌}
-use Rattle.std.proofs.lemmas.Result.{err_from_is_err_and}
+use Rattle.formula.proofs.Exits.{exit}
 use Rattle.records.specs.Kinds.{kind_number}
 use Rattle.reading.specs.Reading.{entry}
 use Rattle.reading.proofs.Steps.{then_got, then_fault, body_1, body_2, body_3}
@@ -8,14 +8,12 @@ use Rattle.records.proofs.records.read_record.Goals as goal
 pub returns-in_err-head : goal.returns-in_err-head
 unfolding entry
 returns-in_err-head c =
-    let p = err_from_is_err_and c.from_residual.result c.from_residual.ensures.1 in
-    rw (p.1, p.2) (then_fault _ c.in_err-head.ensures)
+    rw (exit _ c.from_residual.ensures.1) (then_fault _ c.in_err-head.ensures)
 
 pub returns-in_err-read_condition-in-Condition : goal.returns-in_err-read_condition-in-Condition
 unfolding entry
 returns-in_err-read_condition-in-Condition c =
-    let p = err_from_is_err_and c.from_residual-in_err-read_condition-in-Condition.result c.from_residual-in_err-read_condition-in-Condition.ensures.1 in
-    rw (p.1, p.2) (then_got _ c.in_ok-head.ensures ∙ body_1 _ _ _ _ (ap kind_number c.in-Condition.is) ∙ then_fault _ c.in_err-read_condition-in-Condition.ensures)
+    rw (exit _ c.from_residual-in_err-read_condition-in-Condition.ensures.1) (then_got _ c.in_ok-head.ensures ∙ body_1 _ _ _ _ (ap kind_number c.in-Condition.is) ∙ then_fault _ c.in_err-read_condition-in-Condition.ensures)
 
 pub returns-in_ok-read_condition-in-Condition : goal.returns-in_ok-read_condition-in-Condition
 unfolding entry
@@ -25,8 +23,7 @@ returns-in_ok-read_condition-in-Condition c =
 pub returns-in_err-read_move-in-Move : goal.returns-in_err-read_move-in-Move
 unfolding entry
 returns-in_err-read_move-in-Move c =
-    let p = err_from_is_err_and c.from_residual-in_err-read_move-in-Move.result c.from_residual-in_err-read_move-in-Move.ensures.1 in
-    rw (p.1, p.2) (then_got _ c.in_ok-head.ensures ∙ body_2 _ _ _ _ (ap kind_number c.in-Move.is) ∙ then_fault _ c.in_err-read_move-in-Move.ensures)
+    rw (exit _ c.from_residual-in_err-read_move-in-Move.ensures.1) (then_got _ c.in_ok-head.ensures ∙ body_2 _ _ _ _ (ap kind_number c.in-Move.is) ∙ then_fault _ c.in_err-read_move-in-Move.ensures)
 
 pub returns-in_ok-read_move-in-Move : goal.returns-in_ok-read_move-in-Move
 unfolding entry
@@ -36,8 +33,7 @@ returns-in_ok-read_move-in-Move c =
 pub returns-in_err-read_request-in-Request : goal.returns-in_err-read_request-in-Request
 unfolding entry
 returns-in_err-read_request-in-Request c =
-    let p = err_from_is_err_and c.from_residual-in_err-read_request-in-Request.result c.from_residual-in_err-read_request-in-Request.ensures.1 in
-    rw (p.1, p.2) (then_got _ c.in_ok-head.ensures ∙ body_3 _ _ _ _ (ap kind_number c.in-Request.is) ∙ then_fault _ c.in_err-read_request-in-Request.ensures)
+    rw (exit _ c.from_residual-in_err-read_request-in-Request.ensures.1) (then_got _ c.in_ok-head.ensures ∙ body_3 _ _ _ _ (ap kind_number c.in-Request.is) ∙ then_fault _ c.in_err-read_request-in-Request.ensures)
 
 pub returns-in_ok-read_request-in-Request : goal.returns-in_ok-read_request-in-Request
 unfolding entry

@@ -28,8 +28,7 @@ pub loop-heap-preserved : goal.loop-heap-preserved
 loop-heap-preserved c =
     let ok = ok_map_err _ c.read_record.result c.map_err.result c.in_ok-found.found c.map_err.ensures.cases c.in_ok-found.was in
     let step = rw ok at c.read_record.ensures in
-    let some = some_left _ _ c.is_empty.ensures c.loop-heap-test.true in
-    (
+    let some = some_left _ _ c.is_empty.ensures c.loop-heap-test.true in (
       omega (arith, entry_less _ _ _ _ _ _ some step, c.loop-heap.invariant.0),
       λ fuel le.
           let i = c.loop-heap.invariant.1 fuel le in

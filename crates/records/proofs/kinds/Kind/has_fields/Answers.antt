@@ -1,4 +1,4 @@
-use Rattle.std.proofs.Common.{◌≡◌, ◌^◌, ltb, ap, ◌∙◌, arith, pow_pos}
+use Rattle.std.proofs.Common.{◌^◌, ltb, ap, ◌∙◌, pow_pos}
 use Rattle.records.proofs.Tests.{none_over}
 use Rattle.records.proofs.kinds.Kind.has_fields.Goals as goal
 
