@@ -6,7 +6,7 @@ ghost use Rattle.reader.specs.Reads.{Reads, itself};
 
 use crate::bytes::is_same;
 use crate::reader::Reader;
-use crate::text::TextAt;
+use crate::text::{SheetText, TextAt};
 use faults::{PortFault, RecordFault};
 
 // The most bytes of a text.
@@ -66,7 +66,7 @@ impl<'a> Reader<'a> {
 
     // The bytes of a text that is present, which are not those of an absent one.
     fn next_whole_text(&mut self) -> Result<TextAt<'a>, PortFault>
-        ensures read { Reads whole_text (λ t. t.bytes.now) itself self.old self.new result }
+        ensures read { Reads whole_text (λ t. t.text.bytes.now) itself self.old self.new result }
         ensures stands { IfOk result (λ t. t.place ≡ self.old.place + 1) }
     {
         let length_place = self.place;
@@ -76,18 +76,19 @@ impl<'a> Reader<'a> {
         if is_same(bytes, b"1") {
             return Err(PortFault::Record(RecordFault::Absent(length_place)));
         }
-        Ok(TextAt { bytes, place })
+        let text = SheetText { bytes };
+        Ok(TextAt { text, place })
     }
 
-    // The bytes of a text that is a formula over the marks; those of an absent one are `1`.
-    pub fn next_text(&mut self, present: bool, marks: u8) -> Result<&'a [u8], PortFault>
-        ensures { Reads (text present marks) (λ t. t.now) itself self.old self.new result }
+    // A text that is a formula over the marks; an absent one is `1`.
+    pub fn next_text(&mut self, present: bool, marks: u8) -> Result<SheetText<'a>, PortFault>
+        ensures { Reads (text present marks) (λ t. t.bytes.now) itself self.old self.new result }
     {
         if !present {
-            return Ok(b"1");
+            return Ok(SheetText { bytes: b"1" });
         }
-        let text = self.next_whole_text()?;
-        text.check(marks)?;
-        Ok(text.bytes)
+        let found = self.next_whole_text()?;
+        found.check(marks)?;
+        Ok(found.text)
     }
 }

@@ -8,3 +8,4 @@ mod reader;
 mod text;
 
 pub use reader::Reader;
+pub use text::SheetText;

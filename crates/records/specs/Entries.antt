@@ -13,7 +13,7 @@ head_of h = record { kind = kind_number h.kind; place = h.place; map = h.map; ma
 
 -- a request whose texts are still in the sheet
 abbrev pub request_at : RequestAt → RequestModel
-request_at a = record { from = a.from; to = a.to; keep = a.keep.now; reach = a.reach.now }
+request_at a = record { from = a.from; to = a.to; keep = a.keep.bytes.now; reach = a.reach.bytes.now }
 
 -- a record
 abbrev pub entry_of : Record → Entry

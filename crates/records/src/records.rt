@@ -10,7 +10,7 @@ use crate::draft::Draft;
 use crate::kinds::{Bit, Kind};
 use faults::{PortFault, RecordFault};
 use port::Move;
-use reader::Reader;
+use reader::{Reader, SheetText};
 
 // A record, with the texts of a request still in the sheet.
 #[derive(Clone, Copy)]
@@ -25,8 +25,8 @@ pub enum Record<'a> {
 pub struct RequestAt<'a> {
     pub from: u8,
     pub to: u8,
-    pub keep: &'a [u8],
-    pub reach: &'a [u8],
+    pub keep: SheetText<'a>,
+    pub reach: SheetText<'a>,
 }
 
 // How a record begins: its kind and its map, and where each stands.
@@ -54,8 +54,13 @@ impl Head {
     }
 
     // The field of this bit: a text over the marks.
-    fn text<'a>(self, reader: &mut Reader<'a>, bit: Bit, marks: u8) -> Result<&'a [u8], PortFault>
-        ensures { Reads (text (present self.map (bit_number bit)) marks) (λ t. t.now) itself reader.old reader.new result }
+    fn text<'a>(
+        self,
+        reader: &mut Reader<'a>,
+        bit: Bit,
+        marks: u8,
+    ) -> Result<SheetText<'a>, PortFault>
+        ensures { Reads (text (present self.map (bit_number bit)) marks) (λ t. t.bytes.now) itself reader.old reader.new result }
     {
         reader.next_text(self.has(bit), marks)
     }

@@ -3,27 +3,26 @@ ghost use Rattle.std.specs.Prelude.{◌≡◌, IfOk, OnOk};
 ghost use Rattle.port.specs.Model.{model_of, request_model};
 ghost use Rattle.port.specs.Valid.{Valid};
 ghost use Rattle.records.specs.Drafts.{draft_model};
-ghost use Rattle.reading.specs.Reading.{EntrySized, Sized, add};
+ghost use Rattle.reading.specs.Reading.{add};
 ghost use Rattle.records.specs.Entries.{entry_of, request_at};
 
 use port::{Port, Request, Text};
+use reader::SheetText;
 use records::{Draft, Record, RequestAt};
 use std::alloc::{AllocError, Global};
 
 // Stays: `owned_text`, `owned` and `seal` as functions. A `TryFrom` takes no allocator, and a `From` no `requires`.
 
 // A text that owns its bytes.
-fn owned_text(heap: Global, text: &[u8]) -> Result<Text, AllocError>
-    requires { Sized text.now }
-    ensures { IfOk result (λ t. t.bytes.items ≡ text.now) }
+fn owned_text(heap: Global, text: SheetText) -> Result<Text, AllocError>
+    ensures { IfOk result (λ t. t.bytes.items ≡ text.entry.bytes.now) }
 {
-    let bytes = Vec::from_slice(heap, text)?;
+    let bytes = Vec::from_slice(heap, text.bytes)?;
     Ok(Text { bytes })
 }
 
 // A request that owns its texts.
 fn owned(heap: Global, asked: RequestAt) -> Result<Request, AllocError>
-    requires { (Sized asked.keep.now) × (Sized asked.reach.now) }
     ensures { IfOk result (λ q. request_model q ≡ request_at asked.entry) }
 {
     let keep = owned_text(heap, asked.keep)?;
@@ -38,7 +37,6 @@ fn owned(heap: Global, asked: RequestAt) -> Result<Request, AllocError>
 
 // Adds what a record tells.
 pub(crate) fn add_record(draft: &mut Draft, heap: Global, entry: Record) -> Result<(), AllocError>
-    requires { EntrySized (entry_of entry) }
     ensures header { draft.new.header ≡ draft.old.header }
     ensures added { OnOk result (draft_model draft.new ≡ add (draft_model draft.old) (entry_of entry.entry)) }
 {

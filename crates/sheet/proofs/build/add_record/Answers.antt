@@ -1,12 +1,8 @@
-use Rattle.std.proofs.Common.{refl, ap, subst}
+use Rattle.std.proofs.Common.{refl, ap}
 use Rattle.records.specs.Drafts.{draft_model}
-use Rattle.reading.specs.Reading.{EntrySized}
 use Rattle.records.specs.Entries.{entry_of}
 use Rattle.sheet.proofs.Added.{pushed, added_condition, added_move, added_request}
 use Rattle.sheet.proofs.build.add_record.Goals as goal
-
-pub owned-requires : goal.owned-requires
-owned-requires c = subst EntrySized (ap entry_of c.in-Request.is) c.requires
 
 pub returns-in_ok-push-in-Condition : goal.returns-in_ok-push-in-Condition
 returns-in_ok-push-in-Condition c =

@@ -3,7 +3,6 @@ use Rattle.std.proofs.lemmas.Result.{err_from_is_err_and}
 use Rattle.faults.specs.declared.errors.LoadError.TheVariants.{Fault}
 use Rattle.reading.specs.Reading.{records}
 use Rattle.reading.proofs.Whole.{entry_less, records_more, records_fault, records_end}
-use Rattle.reading.proofs.Keeps.{entry_sized}
 use Rattle.sheet.proofs.Loads.{from_map_err, ok_map_err, some_left, none_left}
 use Rattle.sheet.proofs.loader.read_records.Goals as goal
 
@@ -13,11 +12,6 @@ returns-in_err-found c = λ fuel le.
     let w = from_map_err _ (λ e. Fault e c.loop-heap.count) c.read_record.result c.map_err.result c.in_err-found.field-0.0 c.map_err.ensures.cases (λ e y k. search rules) c.in_err-found.was in
     let i = c.loop-heap.invariant.1 fuel le in
     rw (p.1, p.2, w.2) (i.2 ∙ records_fault _ _ _ _ _ _ (some_left _ _ c.is_empty.ensures c.loop-heap-test.true) i.1 (rw w.1 at c.read_record.ensures))
-
-pub add_record-requires : goal.add_record-requires
-add_record-requires c =
-    let ok = ok_map_err _ c.read_record.result c.map_err.result c.in_ok-found.found c.map_err.ensures.cases c.in_ok-found.was in
-    entry_sized _ _ _ _ _ _ (rw ok at c.read_record.ensures)
 
 pub loop-heap-smaller : goal.loop-heap-smaller
 loop-heap-smaller c =

@@ -8,17 +8,17 @@ pub returns-then-not-present : goal.returns-then-not-present
 unfolding text
 returns-then-not-present c = rw c.if-not-present.true refl
 
-pub returns-in_err-text : goal.returns-in_err-text
+pub returns-in_err-found : goal.returns-in_err-found
 unfolding text
-returns-in_err-text c =
-    rw (exit _ c.from_residual.ensures.1, c.if-not-present.false) (then_fault _ c.in_err-text.ensures.read)
+returns-in_err-found c =
+    rw (exit _ c.from_residual.ensures.1, c.if-not-present.false) (then_fault _ c.in_err-found.ensures.read)
 
 pub returns-in_err-check : goal.returns-in_err-check
 unfolding text
 returns-in_err-check c =
-    rw (exit _ c.from_residual-in_err-check.ensures.1, c.if-not-present.false) (then_got _ c.in_ok-text.ensures.read ∙ moved_stuck _ _ _ _ c.in_ok-text.ensures.stands c.in_err-check.ensures _)
+    rw (exit _ c.from_residual-in_err-check.ensures.1, c.if-not-present.false) (then_got _ c.in_ok-found.ensures.read ∙ moved_stuck _ _ _ _ c.in_ok-found.ensures.stands c.in_err-check.ensures _)
 
 pub returns : goal.returns
 unfolding text
 returns c =
-    rw c.if-not-present.false (then_got _ c.in_ok-text.ensures.read ∙ moved_whole _ _ _ c.in_ok-text.ensures.stands c.in_ok-check.ensures _)
+    rw c.if-not-present.false (then_got _ c.in_ok-found.ensures.read ∙ moved_whole _ _ _ c.in_ok-found.ensures.stands c.in_ok-check.ensures _)

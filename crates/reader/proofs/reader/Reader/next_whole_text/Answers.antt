@@ -23,6 +23,11 @@ returns-then-is_same c =
       stands = tt;
     }
 
+pub invariant_of-text : goal.invariant_of-text
+invariant_of-text c =
+    let b = bytes_place _ _ _ _ _ _ c.in_ok-bytes.ensures in
+    record { some = omega (arith, b.0, c.in_ok-length.ensures.limits.0); few = omega (arith, b.0, c.in_ok-length.ensures.limits.1) }
+
 pub invariant_of-result : goal.invariant_of-result
 invariant_of-result c =
     let b = bytes_place _ _ _ _ _ _ c.in_ok-bytes.ensures in
