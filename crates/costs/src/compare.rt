@@ -10,10 +10,7 @@ use port::Move;
 fn higher<C: CostModel>(a: C::Cost, top: Option<C::Cost>) -> C::Cost
     ensures { C.exact result ≡ topped C.model (C.exact a) (shown C.exact top) }
 {
-    match top {
-        Some(b) => if C::less(a, b) { b } else { a },
-        None => a,
-    }
+    top.map_or(a, |b| if C::less(a, b) { b } else { a })
 }
 
 // The less of the two costs that are there.
@@ -22,8 +19,7 @@ pub fn lower<C: CostModel>(x: Option<C::Cost>, y: Option<C::Cost>) -> Option<C::
 {
     match (x, y) {
         (Some(a), Some(b)) => Some(if C::less(b, a) { b } else { a }),
-        (Some(a), None) => Some(a),
-        (None, _) => y,
+        _ => x.or(y),
     }
 }
 
@@ -31,14 +27,11 @@ pub fn lower<C: CostModel>(x: Option<C::Cost>, y: Option<C::Cost>) -> Option<C::
 pub fn under<C: CostModel>(x: Option<C::Cost>, y: Option<C::Cost>) -> bool
     ensures { result ≡ under_of C.model (shown C.exact x) (shown C.exact y) }
 {
-    match (x, y) {
-        (Some(a), Some(b)) => C::less(a, b),
-        (Some(_), None) => true,
-        (None, _) => false,
-    }
+    x.is_some_and(|a| y.is_none_or(|b| C::less(a, b)))
 }
 
 // Whether two costs are one.
+// Stays: a model of one's own gives only `less`, and a derived `==` asked of its costs would ask more of it.
 fn same<C: CostModel>(a: C::Cost, b: C::Cost) -> bool
     ensures { Decides result (C.exact a ≡ C.exact b) }
 {
@@ -49,10 +42,7 @@ fn same<C: CostModel>(a: C::Cost, b: C::Cost) -> bool
 pub fn comes_to<C: CostModel>(x: Option<C::Cost>, b: C::Cost) -> bool
     ensures { Decides result (shown C.exact x ≡ Some (C.exact b)) }
 {
-    match x {
-        Some(a) => same::<C>(a, b),
-        None => false,
-    }
+    x.is_some_and(|a| same::<C>(a, b))
 }
 
 // The greater of a move joined onto a cost and the top so far.

@@ -1,16 +1,16 @@
 // The two cost models that there are.
-ghost use Rattle.std.specs.Prelude.{◌≡◌, ◌+◌, ◌≤◌};
+ghost use Rattle.std.specs.Prelude.{◌≡◌, ◌+◌, ◌≤◌, refl};
 ghost use Rattle.costs.specs.Models.{count_list, count_sized, minutes_laws, minutes_model, moves_laws, moves_model, time_list, time_sized};
 
 use crate::model::{CostModel, Named};
 use port::Move;
 
-#[derive(Clone, Copy)]
+#[derive(Clone, Copy, Debug, PartialEq, Eq, PartialOrd, Ord)]
 pub struct Count {
     pub moves: u32,
 }
 
-#[derive(Clone, Copy)]
+#[derive(Clone, Copy, Debug, PartialEq, Eq, PartialOrd, Ord)]
 pub struct Time {
     pub minutes: u32,
     pub moves: u32,
@@ -20,7 +20,7 @@ pub struct Time {
 fn add_minutes(sum: u32, minutes: u16) -> u32
     ensures { sum ≤ 16711425 → result ≡ sum + minutes }
 {
-    sum.saturating_add(minutes as u32)
+    sum.saturating_add(u32::from(minutes))
 }
 
 // A run costs its moves.
@@ -36,7 +36,11 @@ impl Named for MoveCount {
 impl CostModel for MoveCount {
     type Cost = Count;
 
+    ghost COLUMNS = { 1 };
+
     const COLUMNS: usize = 1;
+
+    ghost columned = { refl };
 
     ghost model = { moves_model };
 
@@ -56,15 +60,14 @@ impl CostModel for MoveCount {
     }
 
     fn less(a: Count, b: Count) -> bool {
-        a.moves < b.moves
-    }
-
-    fn column_count() -> usize {
-        Self::COLUMNS
+        a < b
     }
 
     fn column(c: Count, i: usize) -> u32 {
-        if i == 0 { c.moves } else { 0 }
+        match i {
+            0 => c.moves,
+            _ => 0,
+        }
     }
 }
 
@@ -75,7 +78,11 @@ impl Named for Minutes {
 impl CostModel for Minutes {
     type Cost = Time;
 
+    ghost COLUMNS = { 2 };
+
     const COLUMNS: usize = 2;
+
+    ghost columned = { refl };
 
     ghost model = { minutes_model };
 
@@ -100,21 +107,14 @@ impl CostModel for Minutes {
     }
 
     fn less(a: Time, b: Time) -> bool {
-        if a.minutes == b.minutes {
-            a.moves < b.moves
-        } else {
-            a.minutes < b.minutes
-        }
-    }
-
-    fn column_count() -> usize {
-        Self::COLUMNS
+        a < b
     }
 
     fn column(c: Time, i: usize) -> u32 {
-        if i == 0 {
-            return c.minutes;
+        match i {
+            0 => c.minutes,
+            1 => c.moves,
+            _ => 0,
         }
-        if i == 1 { c.moves } else { 0 }
     }
 }

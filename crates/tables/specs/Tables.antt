@@ -14,15 +14,6 @@ looked e t c = shown e (slice_index_or t c None)
 abbrev pub AllBelow : Model → (ℕ → Option (List ℕ)) → List Move → List ℕ → Type 0
 AllBelow k V ms f = (m : Move) → In m ms → under_of k (V m.outcome) (Some f) ≡ true
 
--- the cost x with its condition c
-abbrev pub labelled_of : {A : Type 0} → ℕ → Option A → Option (Label A)
-labelled_of c None = None
-labelled_of c (Some a) = Some (record { condition = c; cost = a })
-
--- where one of the first i has an offer, b has one that is no greater
-abbrev pub LowPlace : {A : Type 0} → Model → (A → List ℕ) → List (Option A) → ℕ → ℕ → Type 0
-LowPlace k e t i b = (c : ℕ) (g : List ℕ) → c < i → looked e t c ≡ Some g → (f : List ℕ) × (looked e t b ≡ Some f) × Le k f g
-
 -- the least of the first i offers
 abbrev pub LeastOf : {A : Type 0} → Model → (A → List ℕ) → List (Option A) → ℕ → Option (Label A) → Type 0
 LeastOf k e t i None = (c : ℕ) → c < i → looked e t c ≡ None

@@ -2,8 +2,8 @@
 #![tactic(auto)]
 
 ghost use Rattle.std.specs.Prelude.{◌≡◌, length, Some, None, Decides, slice_index_or};
-ghost use Rattle.costs.specs.Compare.{under_of};
-ghost use Rattle.tables.specs.Tables.{AllBelow, LeastOf, LowPlace, labelled_of, looked};
+ghost use Rattle.costs.specs.Compare.{shown, under_of};
+ghost use Rattle.tables.specs.Tables.{AllBelow, LeastOf, looked};
 
 use costs::{CostModel, under};
 use port::Move;
@@ -15,18 +15,25 @@ pub struct Label<K> {
     pub cost: K,
 }
 
+// What a list has at `i`: past its end, `other`.
+pub fn item_or<T: Copy>(items: &[T], i: usize, other: T) -> T
+    ensures { result ≡ slice_index_or items.now i other }
+{
+    items.get(i).copied().unwrap_or(other)
+}
+
 // What a table has for `c`: past its end, nothing.
 pub fn cost_at<K: Copy>(costs: &[Option<K>], c: usize) -> Option<K>
     ensures { result ≡ slice_index_or costs.now c None }
 {
-    if c < costs.len() { costs[c] } else { None }
+    item_or(costs, c, None)
 }
 
 // What is left to pay after a move: what its outcome costs.
 pub fn cost_after<K: Copy>(costs: &[Option<K>], m: &Move) -> Option<K>
     ensures { result ≡ slice_index_or costs.now m.now.outcome None }
 {
-    cost_at(costs, m.outcome as usize)
+    cost_at(costs, usize::from(m.outcome))
 }
 
 // Whether a move leads to a cost below `cost`.
@@ -40,48 +47,25 @@ fn leads_below<C: CostModel>(costs: &[Option<C::Cost>], m: &Move, cost: C::Cost)
 pub fn all_below<C: CostModel>(moves: &[Move], costs: &[Option<C::Cost>], cost: C::Cost) -> bool
     ensures { Decides result (AllBelow C.model (looked C.exact costs.now) moves.now (C.exact cost)) }
 {
-    for m in moves {
-        if !leads_below::<C>(costs, m, cost) {
-            return false;
-        }
-    }
-    true
+    moves.iter().all(|m| leads_below::<C>(costs, m, cost))
 }
 
-// Whether the offer for `c` is under the one for `d`.
-fn offers_less<C: CostModel>(offers: &[Option<C::Cost>], c: usize, d: usize) -> bool
-    ensures { result ≡ under_of C.model (looked C.exact offers.now c) (looked C.exact offers.now d) }
+// Whether a cost is below that of the best label so far, or there is none yet.
+fn is_better<C: CostModel>(cost: C::Cost, best: Option<Label<C::Cost>>) -> bool
+    ensures { result ≡ under_of C.model (Some (C.exact cost)) (shown (λ b. C.exact b.cost) best) }
 {
-    under::<C>(cost_at(offers, c), cost_at(offers, d))
-}
-
-// The condition with the least offer, and the first of equals.
-fn least_place<C: CostModel>(offers: &[Option<C::Cost>]) -> usize
-    ensures { LowPlace C.model C.exact offers.now (length offers.now) result }
-{
-    let mut best = 0;
-    for c in 0..offers.len() {
-        if offers_less::<C>(offers, c, best) {
-            best = c;
-        }
-    }
-    best
-}
-
-// An offer with its condition.
-fn labelled<K: Copy>(condition: usize, offer: Option<K>) -> Option<Label<K>>
-    ensures { result ≡ labelled_of condition offer }
-{
-    match offer {
-        Some(cost) => Some(Label { condition, cost }),
-        None => None,
-    }
+    best.is_none_or(|best| C::less(cost, best.cost))
 }
 
 // The least offer, and the first of equals.
 pub fn least<C: CostModel>(offers: &[Option<C::Cost>]) -> Option<Label<C::Cost>>
     ensures { LeastOf C.model C.exact offers.now (length offers.now) result }
 {
-    let best = least_place::<C>(offers);
-    labelled(best, cost_at(offers, best))
+    let mut best = None;
+    for (condition, &offer) in offers.iter().enumerate() {
+        if let Some(cost) = offer && is_better::<C>(cost, best) {
+            best = Some(Label { condition, cost });
+        }
+    }
+    best
 }
