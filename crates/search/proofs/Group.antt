@@ -7,10 +7,9 @@ use Rattle.costs.specs.Costs.{Model, Laws, WeakLaws, Sized, Le}
 use Rattle.search.specs.Labels.{After, Worst, Greatest, Cheapest, By}
 use Rattle.costs.specs.Compare.{topped, either, under_of}
 use Rattle.tables.specs.Tables.{AllBelow}
-use Rattle.search.specs.Groups.{GroupEnd, Topped, Begins, Below, Lowered, Unmet, Lowest}
-use Rattle.index.specs.Indexes.{Ordered}
+use Rattle.search.specs.Groups.{Splits, Topped, Below, Left, Lowered, Unmet, Lowest}
 use Rattle.costs.proofs.Order.{was_true, weaken}
-use Rattle.index.proofs.Lists.{in_get_d, in_at, front_in, front_last, front_split, part, in_part, part_in}
+use Rattle.index.proofs.Lists.{in_get_d, in_at, front_in, front_last, front_split}
 use Rattle.search.proofs.Runs.{worst_map, worst_one, worst_old, worst_new, worst_sized}
 use Rattle.tables.proofs.Options.{some_inj, none_some, AllSized}
 
@@ -59,70 +58,61 @@ module _ {k : Model} (laws : WeakLaws k) (V : ℕ → Option (List ℕ)) (good :
 
   -- ── groups ──
 
-  module _ (ms : List Move) (ordered : Ordered ms) (a b : ℕ) (begins : Begins ms a) (end : GroupEnd ms a b) where
-    pub begins_next : Begins ms b
-    begins_next j l h =
-        let p = end.after in
-        let other = end.other h in
-        let up = ordered a b (omega arith) h in
-        ⊎_elim
-        (λ q. let x = begins j q (omega arith) in omega arith)
-        (λ q. let x = end.same j q l in let strict : (at ms a).operation < (at ms b).operation = ⊎_elim (λ y. y) (λ y. absurd (other (omega arith))) (cases_lt (at ms a).operation (at ms b).operation) in omega arith)
-        (cases_lt j a)
+  module _ (ms rest group after : List Move) (left : Left ms rest) (splits : Splits rest group after) where
+    -- the first of the group is among what was left
+    lead : By rest (at group 0).operation (at group 0)
+    lead = splits.mine (at group 0) (in_get_d no_move group 0 splits.some)
 
-    -- the part from a to b has the moves by the operation at a
-    group_in : (m : Move) → In m (part no_move a b ms) → By ms (at ms a).operation m
-    group_in m h =
-        let p = part_in no_move a b ms end.inside m h in
-        let l = end.inside in
-        let u = p.2 in (
-          subst (λ (x : Move). In x ms) (sym p.3) (in_get_d no_move ms p.0 (omega arith)),
-          ap (λ (x : Move). x.operation) p.3 ∙ end.same p.0 p.1 p.2,
-        )
+    -- an operation below what was left is below what is left now
+    lower_still : (o : ℕ) → Below rest o → Below after o
+    lower_still o below m h = below m (splits.others m h).0
 
-    group_out : (m : Move) → By ms (at ms a).operation m → In m (part no_move a b ms)
+    pub left_next : Left ms after
+    left_next = record {
+      among = λ m h. left.among m (splits.others m h).0;
+      gone = λ m h. ⊎_elim
+          (λ i. ⊎_elim
+          (λ j. inr (λ n g. subst (λ o. o < n.operation) (sym (splits.mine m j).1) (splits.others n g).1))
+          (λ j. inl j)
+          (splits.left m i))
+          (λ below. inr (lower_still m.operation below))
+          (left.gone m h);
+    }
+
+    -- the group has the moves by its operation
+    group_in : (m : Move) → In m group → By ms (at group 0).operation m
+    group_in m h = let r = splits.mine m h in (left.among m r.0, r.1)
+
+    group_out : (m : Move) → By ms (at group 0).operation m → In m group
     group_out m h =
-        let p = in_at no_move ms m h.0 in
-        let l = p.1 in
-        let f = end.after in
-        let g = end.inside in
-        let same : (at ms p.0).operation ≡ (at ms a).operation = ap (λ (x : Move). x.operation) (sym p.2) ∙ h.1 in
-        let low : a ≤ p.0 = ⊎_elim (λ q. let x = begins p.0 q (omega arith) in absurd (omega arith)) (λ q. q) (cases_lt p.0 a) in
-        let high : p.0 < b =
-        ⊎_elim (λ q. q)
-        (λ q.
-        let x = begins_next a f (omega arith) in
-        let y = ordered b p.0 q l in
-        absurd (omega arith))
-        (cases_lt p.0 b) in
-        subst (λ (x : Move). In x (part no_move a b ms)) (sym p.2) (in_part no_move a b ms end.inside p.0 low high)
+        ⊎_elim
+        (λ i. splits.all m (i, h.1))
+        (λ below. let x = below (at group 0) lead.0 in let y = h.1 in absurd (omega arith))
+        (left.gone m h.0)
 
-    pub group_worst : (f : List ℕ) → Worst k (After V) (λ m. In m (part no_move a b ms)) f → Worst k (After V) (By ms (at ms a).operation) f
+    pub group_worst : (f : List ℕ) → Worst k (After V) (λ m. In m group) f → Worst k (After V) (By ms (at group 0).operation) f
     group_worst f = worst_map group_in group_out
 
-    group_back : (f : List ℕ) → Worst k (After V) (By ms (at ms a).operation) f → Worst k (After V) (λ m. In m (part no_move a b ms)) f
+    group_back : (f : List ℕ) → Worst k (After V) (By ms (at group 0).operation) f → Worst k (After V) (λ m. In m group) f
     group_back f = worst_map group_out group_in
 
-    -- an operation below b is below a, or it is the one at a, or it has no move
-    cases_below : (o : ℕ) (g : List ℕ) → Below ms b o → Worst k (After V) (By ms o) g → Below ms a o ⊎ (o ≡ (at ms a).operation)
+    -- an operation of the list that is below what is left was below what was left, or it is the group's
+    cases_below : (o : ℕ) (g : List ℕ) → Below after o → Worst k (After V) (By ms o) g → Below rest o ⊎ (o ≡ (at group 0).operation)
     cases_below o g below w =
         let t = w.top in
-        let p = in_at no_move ms t.0 t.1.0 in
-        let l = p.1 in
-        let f = end.after in
-        let same : (at ms p.0).operation ≡ o = ap (λ (x : Move). x.operation) (sym p.2) ∙ t.1.1 in
+        let same : t.0.operation ≡ o = t.1.1 in
         ⊎_elim
-        (λ q. inl (λ h. let x = begins p.0 q h in omega arith))
-        (λ q. ⊎_elim
-        (λ r. inr (sym same ∙ end.same p.0 q r))
-        (λ r. let x = ordered b p.0 r l in let y = below (omega arith) in absurd (omega arith))
-        (cases_lt p.0 b))
-        (cases_lt p.0 a)
+        (λ i. ⊎_elim
+        (λ j. inr (sym same ∙ (splits.mine t.0 j).1))
+        (λ j. let x = below t.0 j in absurd (omega arith))
+        (splits.left t.0 i))
+        (λ b. inl (subst (Below rest) same b))
+        (left.gone t.0 t.1.0)
 
-    pub lowered_more : (x y : Option (List ℕ)) → Greatest k V (part no_move a b ms) x → Lowered k V ms a y → Lowered k V ms b (either k x y)
+    pub lowered_more : (x y : Option (List ℕ)) → Greatest k V group x → Lowered k V ms rest y → Lowered k V ms after (either k x y)
     lowered_more None None h low = λ o g below w. ⊎_elim (λ q. low o g q w) (λ q. h g (group_back g (subst (λ n. Worst k (After V) (By ms n) g) q w))) (cases_below o g below w)
     lowered_more None (Some f) h low = (low.0, λ o g below w. ⊎_elim (λ q. low.1 o g q w) (λ q. absurd (h g (group_back g (subst (λ n. Worst k (After V) (By ms n) g) q w)))) (cases_below o g below w))
-    lowered_more (Some f) None h low = (((at ms a).operation, group_worst f h), λ o g below w. ⊎_elim (λ q. absurd (low o g q w)) (λ q. same_cost f g (group_worst f h) (subst (λ n. Worst k (After V) (By ms n) g) q w)) (cases_below o g below w))
+    lowered_more (Some f) None h low = (((at group 0).operation, group_worst f h), λ o g below w. ⊎_elim (λ q. absurd (low o g q w)) (λ q. same_cost f g (group_worst f h) (subst (λ n. Worst k (After V) (By ms n) g) q w)) (cases_below o g below w))
     lowered_more (Some f) (Some y) h low = go (k.within f y) refl
       where
         fs : Sized k f
@@ -131,46 +121,45 @@ module _ {k : Model} (laws : WeakLaws k) (V : ℕ → Option (List ℕ)) (good :
         ys : Sized k y
         ys = worst_sized laws (After V) sized y low.0.1
 
-        at_a : (o : ℕ) (g : List ℕ) → o ≡ (at ms a).operation → Worst k (After V) (By ms o) g → Le k f g
-        at_a o g q w = same_cost f g (group_worst f h) (subst (λ n. Worst k (After V) (By ms n) g) q w)
+        at_group : (o : ℕ) (g : List ℕ) → o ≡ (at group 0).operation → Worst k (After V) (By ms o) g → Le k f g
+        at_group o g q w = same_cost f g (group_worst f h) (subst (λ n. Worst k (After V) (By ms n) g) q w)
 
-        go : (t : Bool) → k.within f y ≡ t → Lowered k V ms b (Some (cond t f y))
-        go true e = (((at ms a).operation, group_worst f h), λ o g below w. ⊎_elim (λ q. laws.chain f y g fs ys (worst_sized laws (After V) sized g w) (was_true e) (low.1 o g q w)) (λ q. at_a o g q w) (cases_below o g below w))
-        go false e = (low.0, λ o g below w. ⊎_elim (λ q. low.1 o g q w) (λ q. laws.chain y f g ys fs (worst_sized laws (After V) sized g w) (not_within y f ys fs e) (at_a o g q w)) (cases_below o g below w))
+        go : (t : Bool) → k.within f y ≡ t → Lowered k V ms after (Some (cond t f y))
+        go true e = (((at group 0).operation, group_worst f h), λ o g below w. ⊎_elim (λ q. laws.chain f y g fs ys (worst_sized laws (After V) sized g w) (was_true e) (low.1 o g q w)) (λ q. at_group o g q w) (cases_below o g below w))
+        go false e = (low.0, λ o g below w. ⊎_elim (λ q. low.1 o g q w) (λ q. laws.chain y f g ys fs (worst_sized laws (After V) sized g w) (not_within y f ys fs e) (at_group o g q w)) (cases_below o g below w))
 
-    pub unmet_more : (f : List ℕ) → (Worst k (After V) (λ m. In m (part no_move a b ms)) f → ⊥) → Unmet k V ms a f → Unmet k V ms b f
+    pub unmet_more : (f : List ℕ) → (Worst k (After V) (λ m. In m group) f → ⊥) → Unmet k V ms rest f → Unmet k V ms after f
     unmet_more f differs un o below w = ⊎_elim (λ q. un o q w) (λ q. differs (group_back f (subst (λ n. Worst k (After V) (By ms n) f) q w))) (cases_below o f below w)
 
-    pub met : (f : List ℕ) → Worst k (After V) (λ m. In m (part no_move a b ms)) f → Unmet k V ms a f → Lowest k V ms f (Some (at ms a).operation)
-    met f h un = (
-      group_worst f h,
-      λ p w. ⊎_elim (λ q. absurd (un p (λ l. q) w)) (λ q. q) (cases_lt p (at ms a).operation),
-    )
+    pub met : (f : List ℕ) → Worst k (After V) (λ m. In m group) f → Unmet k V ms rest f → Lowest k V ms f (Some (at group 0).operation)
+    met f h un = (group_worst f h, λ p w. ⊎_elim (λ q. absurd (un p (λ m i. lowest p q m i) w)) (λ q. q) (cases_lt p (at group 0).operation))
+      where
+        lowest : (p : ℕ) → p < (at group 0).operation → Below rest p
+        lowest p q m i = ⊎_elim (λ j. let x = (splits.mine m j).1 in omega arith) (λ j. let x = (splits.others m j).1 in omega arith) (splits.left m i)
 
   -- at the start and at the end
   module _ (ms : List Move) where
-    no_below : Ordered ms → (o : ℕ) (g : List ℕ) → Below ms 0 o → Worst k (After V) (By ms o) g → ⊥
-    no_below ordered o g below w =
-        let t = w.top in
-        let p = in_at no_move ms t.0 t.1.0 in
-        let l = p.1 in
-        let same : (at ms p.0).operation ≡ o = ap (λ (x : Move). x.operation) (sym p.2) ∙ t.1.1 in
-        let x = below (omega arith) in
-        let y = ordered 0 p.0 (omega arith) l in
-        omega arith
+    pub left_all : Left ms ms
+    left_all = record { among = λ m h. h; gone = λ m h. inl h }
 
-    pub lowered_none : Ordered ms → Lowered k V ms 0 None
-    lowered_none ordered o g below w = no_below ordered o g below w
+    no_below : (o : ℕ) (g : List ℕ) → Below ms o → Worst k (After V) (By ms o) g → ⊥
+    no_below o g below w = let t = w.top in let x = below t.0 t.1.0 in let y = t.1.1 in omega arith
 
-    pub unmet_none : Ordered ms → (f : List ℕ) → Unmet k V ms 0 f
-    unmet_none ordered f o below w = no_below ordered o f below w
+    pub lowered_none : Lowered k V ms ms None
+    lowered_none o g below w = no_below o g below w
 
-    pub lowered_all : (i : ℕ) → length ms ≤ i → (x : Option (List ℕ)) → Lowered k V ms i x → Cheapest k V (By ms) x
-    lowered_all i l None low = λ o g w. low o g (λ h. absurd (omega arith)) w
-    lowered_all i l (Some f) low = (low.0, λ o g w. low.1 o g (λ h. absurd (omega arith)) w)
+    pub unmet_none : (f : List ℕ) → Unmet k V ms ms f
+    unmet_none f o below w = no_below o f below w
 
-    pub unmet_all : (i : ℕ) → length ms ≤ i → (f : List ℕ) → Unmet k V ms i f → Lowest k V ms f None
-    unmet_all i l f un p w = un p (λ h. absurd (omega arith)) w
+    none_left : (rest : List Move) → length rest ≡ 0 → (o : ℕ) → Below rest o
+    none_left rest l o m i = let p = in_at no_move rest m i in let q = p.1 in absurd (omega arith)
+
+    pub lowered_all : (rest : List Move) → length rest ≡ 0 → (x : Option (List ℕ)) → Lowered k V ms rest x → Cheapest k V (By ms) x
+    lowered_all rest l None low = λ o g w. low o g (none_left rest l o) w
+    lowered_all rest l (Some f) low = (low.0, λ o g w. low.1 o g (none_left rest l o) w)
+
+    pub unmet_all : (rest : List Move) → length rest ≡ 0 → (f : List ℕ) → Unmet k V ms rest f → Lowest k V ms f None
+    unmet_all rest l f un p w = un p (none_left rest l p) w
 
 -- where the greatest is f, each outcome is below it: a move makes a cost more
 pub worst_below : {k : Model} (laws : Laws k) (V : ℕ → Option (List ℕ)) (good : AllSized k V) (ms : List Move) (f : List ℕ) → Worst k (After V) (λ m. In m ms) f → AllBelow k V ms f

@@ -223,9 +223,6 @@ module _ {A : Type 0} {k : Model} (laws : WeakLaws k) (e : A → List ℕ) (size
       closed = no_plan laws moves keep goal n within (looked e costs) (looked_sized k e sized costs) state.final.goals (looked e offers) state.offered (λ c l. none c (subst (λ m. c < m) (sym state.offers_sized) l));
     }
 
-    pub settled_early : (costs : List (Option A)) → Settled k e moves keep goal n costs → Early k e 255 costs
-    settled_early costs s d f p c a q w = widen 254 255 (omega arith) (s.early d f p c a q w)
-
     -- what is chosen by costs that are settled is the answer
     pub answered : (costs : List (Option A)) → Settled k e moves keep goal n costs → (c : ℕ) → c < n → (x : Choice A) → Picked k e moves (looked e costs) goal c x → Answer k e moves keep goal c x
     answered costs s c l Nothing h = go (looked e costs c) refl
@@ -235,4 +232,4 @@ module _ {A : Type 0} {k : Model} (laws : WeakLaws k) (e : A → List ℕ) (size
         go (Some f) q = let b = s.final.by c f q h.0 in absurd (h.1 f q b.1.0 b.1.1)
     answered costs s c l There h = h
     answered costs s c l (Work o x) h =
-        (h.0, best laws moves keep goal n within (looked e costs) (looked_sized k e sized costs) s.final s.closed c o (e x) h.1 h.0 h.2 h.3)
+        (h.0, best laws moves keep goal n within (looked e costs) (looked_sized k e sized costs) s.final s.closed c o (e x) h.1.0 h.0 h.1.1 h.1.2)

@@ -25,13 +25,6 @@ done_more (Some b ∷ t) zero a l e = let z : ◌≡◌ {A = ℕ} 0 1 = cc in ab
 done_more (None ∷ t) (suc i) a l e = done_more t i a (omega arith) e
 done_more (Some b ∷ t) (suc i) a l e = ap suc (done_more t i a (omega arith) e)
 
-pub done_open : {A : Type 0} (t : List (Option A)) (i : ℕ) → i < length t → get_or t i None ≡ None → done t < length t
-done_open [] i l e = absurd (omega arith)
-done_open (None ∷ t) zero l e = let h = done_most t in omega arith
-done_open (Some b ∷ t) zero l e = let z : ◌≡◌ {A = ℕ} 0 1 = cc in absurd (omega arith)
-done_open (None ∷ t) (suc i) l e = let h = done_open t i (omega arith) e in omega arith
-done_open (Some b ∷ t) (suc i) l e = let h = done_open t i (omega arith) e in omega arith
-
 pub done_some : {A : Type 0} (t : List (Option A)) (i : ℕ) (a : A) → get_or t i None ≡ Some a → 0 < done t
 done_some [] i a e = let z : ◌≡◌ {A = ℕ} 0 1 = cc in absurd (omega arith)
 done_some (None ∷ t) zero a e = let z : ◌≡◌ {A = ℕ} 0 1 = cc in absurd (omega arith)

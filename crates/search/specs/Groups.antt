@@ -1,16 +1,24 @@
 -- Moves in order of operation, and what each group of them comes to.
-use Rattle.std.specs.Prelude.{◌≡◌, ℕ, ◌<◌, ◌≤◌, List, length, take, Some, None, Option, ◌≢◌}
+use Rattle.std.specs.Prelude.{◌≡◌, ℕ, ◌<◌, ◌≤◌, ◌⊎◌, List, length, take, Some, None, Option, ◌≢◌}
 use Rattle.port.specs.Limits.{In, at}
 use Rattle.port.specs.declared.Move.{Move}
 use Rattle.costs.specs.Costs.{Model, Le}
 use Rattle.search.specs.Labels.{After, By, Worst}
 
--- the moves from `from` to `to` are by one operation, and the next is by another
-pub record GroupEnd (ms : List Move) (from to : ℕ) : Type 0 where
-  pub after : from < to
-  pub inside : to ≤ length ms
-  pub same : (i : ℕ) → from ≤ i → i < to → (at ms i).operation ≡ (at ms from).operation
-  pub other : to < length ms → (at ms to).operation ≢ (at ms from).operation
+-- the first n moves are by the operation o, and the next is by another
+pub record Same (ms : List Move) (o n : ℕ) : Type 0 where
+  pub inside : n ≤ length ms
+  pub same : (i : ℕ) → i < n → (at ms i).operation ≡ o
+  pub other : n < length ms → (at ms n).operation ≢ o
+
+-- the group has the moves by the lowest operation of the list, and the rest the others
+pub record Splits (ms group rest : List Move) : Type 0 where
+  pub shorter : length rest < length ms
+  pub some : 0 < length group
+  pub mine : (m : Move) → In m group → By ms (at group 0).operation m
+  pub all : (m : Move) → By ms (at group 0).operation m → In m group
+  pub others : (m : Move) → In m rest → In m ms × ((at group 0).operation < m.operation)
+  pub left : (m : Move) → In m ms → In m group ⊎ In m rest
 
 -- the lowest operation of the list that comes to f, or that none does
 abbrev pub Lowest : Model → (ℕ → Option (List ℕ)) → List Move → List ℕ → Option ℕ → Type 0
@@ -24,19 +32,20 @@ abbrev pub Topped : Model → (ℕ → Option (List ℕ)) → List Move → ℕ 
 Topped k V ms i None = i ≡ 0
 Topped k V ms i (Some f) = Worst k (After V) (λ m. In m (take i ms)) f
 
--- a group begins at i
-abbrev pub Begins : List Move → ℕ → Type 0
-Begins ms i = (j : ℕ) → j < i → i < length ms → (at ms j).operation < (at ms i).operation
+-- the operation o is below each of the moves
+abbrev pub Below : List Move → ℕ → Type 0
+Below rest o = (m : Move) → In m rest → o < m.operation
 
--- the operation o is below the group that begins at i
-abbrev pub Below : List Move → ℕ → ℕ → Type 0
-Below ms i o = i < length ms → o < (at ms i).operation
+-- of the moves ms those are left that are not by an operation below
+pub record Left (ms rest : List Move) : Type 0 where
+  pub among : (m : Move) → In m rest → In m ms
+  pub gone : (m : Move) → In m ms → In m rest ⊎ Below rest m.operation
 
--- the least that an operation below i comes to
-abbrev pub Lowered : Model → (ℕ → Option (List ℕ)) → List Move → ℕ → Option (List ℕ) → Type 0
-Lowered k V ms i None = (o : ℕ) (g : List ℕ) → Below ms i o → Worst k (After V) (By ms o) g → ⊥
-Lowered k V ms i (Some f) = ((o : ℕ) × Worst k (After V) (By ms o) f) × ((o : ℕ) (g : List ℕ) → Below ms i o → Worst k (After V) (By ms o) g → Le k f g)
+-- the least that an operation comes to which is below what is left
+abbrev pub Lowered : Model → (ℕ → Option (List ℕ)) → List Move → List Move → Option (List ℕ) → Type 0
+Lowered k V ms rest None = (o : ℕ) (g : List ℕ) → Below rest o → Worst k (After V) (By ms o) g → ⊥
+Lowered k V ms rest (Some f) = ((o : ℕ) × Worst k (After V) (By ms o) f) × ((o : ℕ) (g : List ℕ) → Below rest o → Worst k (After V) (By ms o) g → Le k f g)
 
--- no operation below i comes to f
-abbrev pub Unmet : Model → (ℕ → Option (List ℕ)) → List Move → ℕ → List ℕ → Type 0
-Unmet k V ms i f = (o : ℕ) → Below ms i o → Worst k (After V) (By ms o) f → ⊥
+-- no operation below what is left comes to f
+abbrev pub Unmet : Model → (ℕ → Option (List ℕ)) → List Move → List Move → List ℕ → Type 0
+Unmet k V ms rest f = (o : ℕ) → Below rest o → Worst k (After V) (By ms o) f → ⊥

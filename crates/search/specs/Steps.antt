@@ -1,5 +1,5 @@
 -- What the steps of the search do.
-use Rattle.std.specs.Prelude.{◌≡◌, ℕ, ◌-◌, ◌<◌, ◌≤◌, Bool, true, false, cond, List, length, Some, None, Option}
+use Rattle.std.specs.Prelude.{◌≡◌, ℕ, ◌-◌, ◌<◌, ◌≤◌, Bool, true, false, cond, List, length, Some, None, Option, slice_index_or}
 use Rattle.port.specs.declared.Move.{Move}
 use Rattle.plans.specs.Plans.{Plan, Can, Attains}
 use Rattle.costs.specs.Costs.{Model, Le}
@@ -11,6 +11,10 @@ use Rattle.search.specs.declared.Choice.TheVariants.{None as Nothing, There, Wor
 -- the goal costs nothing
 abbrev pub start : Model → (ℕ → Bool) → ℕ → Option (List ℕ)
 start k goal c = cond (goal c) (Some k.zero) None
+
+-- each of n conditions costs what it does at first
+abbrev pub Started : {A : Type 0} → Model → (A → List ℕ) → (ℕ → Bool) → ℕ → List (Option A) → Type 0
+Started k e goal n t = (length t ≡ n) × ((c : ℕ) → c < n → looked e t c ≡ start k goal c)
 
 -- each of n conditions has what is on offer for it
 abbrev pub AllOffered : Model → List Move → (ℕ → Bool) → ℕ → (ℕ → Option (List ℕ)) → (ℕ → Option (List ℕ)) → Type 0
@@ -44,8 +48,17 @@ pub record Settled {A : Type 0} (k : Model) (e : A → List ℕ) (moves : List M
   pub early : Early k e 254 costs
   pub closed : (p : Plan) (c : ℕ) → c < n → looked e costs c ≡ None → Attains moves keep goal p c → ⊥
 
+-- the lowest operation at c that comes to what V has for it, with that cost
+abbrev pub Worked : {A : Type 0} → Model → (A → List ℕ) → List Move → (ℕ → Option (List ℕ)) → ℕ → Option (ℕ × A) → Type 0
+Worked k e moves V c None = (f : List ℕ) → V c ≡ Some f → (o : ℕ) → Worst k (After V) (Can moves c o) f → ⊥
+Worked k e moves V c (Some w) = (V c ≡ Some (e w.1)) × Worst k (After V) (Can moves c w.0) (e w.1) × ((p : ℕ) → Worst k (After V) (Can moves c p) (e w.1) → w.0 ≤ p)
+
 -- what is chosen at c by the costs V
 abbrev pub Picked : {A : Type 0} → Model → (A → List ℕ) → List Move → (ℕ → Option (List ℕ)) → (ℕ → Bool) → ℕ → Choice A → Type 0
-Picked k e moves V goal c Nothing = (goal c ≡ false) × ((f : List ℕ) → V c ≡ Some f → (o : ℕ) → Worst k (After V) (Can moves c o) f → ⊥)
+Picked k e moves V goal c Nothing = (goal c ≡ false) × Worked k e moves V c None
 Picked k e moves V goal c There = goal c ≡ true
-Picked k e moves V goal c (Work o x) = (goal c ≡ false) × (V c ≡ Some (e x)) × Worst k (After V) (Can moves c o) (e x) × ((p : ℕ) → Worst k (After V) (Can moves c p) (e x) → o ≤ p)
+Picked k e moves V goal c (Work o x) = (goal c ≡ false) × Worked k e moves V c (Some (o, x))
+
+-- what is chosen at each of n conditions
+abbrev pub AllPicked : {A : Type 0} → Model → (A → List ℕ) → List Move → (ℕ → Option (List ℕ)) → (ℕ → Bool) → ℕ → List (Choice A) → Type 0
+AllPicked k e moves V goal n r = (length r ≡ n) × ((c : ℕ) → c < n → Picked k e moves V goal c (slice_index_or r c Nothing))

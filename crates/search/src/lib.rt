@@ -1,13 +1,17 @@
 // The cheapest plan from each condition of a port to a goal, under any cost model that keeps the laws.
 #![tactic(auto)]
 
+mod groups;
+mod known;
 mod labelling;
+mod operations;
 
 pub use costs::{CostModel, Count, Minutes, MoveCount, Named, Time};
 pub use index::MoveIndex;
 pub use labelling::search;
 
 // What to do in a condition: there is no plan, the goal holds, or work an operation at this cost.
+// Stays: an Option of the last two is no plainer: what is written of it is one of three, and would be matched twice.
 #[derive(Clone, Copy)]
 pub enum Choice<K> {
     None,

@@ -1,30 +1,28 @@
-use Rattle.std.proofs.Common.{◌≡◌, ℕ, suc, ◌-◌, ◌<◌, length, set, Some, None, vec_items, vec_len, sym, ap, ◌∙◌, subst, arith}
-use Rattle.std.specs.Vec.{with_items}
-use Rattle.std.proofs.lemmas.List.{with_items_is, length-set}
+use Rattle.std.proofs.Common.{◌≡◌, ℕ, suc, ◌-◌, ◌<◌, length, set, Some, None, vec_items, vec_len, sym, refl, ap, ◌∙◌, subst, arith}
+use Rattle.std.specs.Vec.{with_item, with_items}
+use Rattle.std.proofs.lemmas.List.{length-set, with_items_is}
 use Rattle.search.specs.Labels.{Few, Offered, done}
 use Rattle.tables.specs.Tables.{looked, LeastOf}
 use Rattle.plans.specs.Flags.{has}
 use Rattle.index.specs.Indexed.{count_of, moves_of, port_of}
-use Rattle.search.specs.Steps.{State, start}
+use Rattle.search.specs.Steps.{AllOffered, State, start}
 use Rattle.index.proofs.Bounds.{index_timely, index_within}
 use Rattle.costs.proofs.Order.{weaken}
 use Rattle.search.proofs.Steps.{final_start, few_start, few_all, above_start, d_within, few_next, rest_next, state_next, settled}
 use Rattle.search.proofs.Tables.{done_most}
 use Rattle.search.proofs.labelling.solve.Goals as goal
 
-pub offers_of-requires : goal.offers_of-requires
-offers_of-requires g c =
+pub invariant_of-known : goal.invariant_of-known
+invariant_of-known g c =
     let k = g.C.CostModel in
     let index = c.args.index.now in
     let told = c.in_ok-costs.ensures in
-    let value = c.deref.ensures.value in
     let t = vec_items c.in_ok-costs.costs in
     let all = c.conditions.ensures in
     let begun : (d : ℕ) → d < count_of index → looked k.exact t d ≡ start k.model (has c.args.goal.now) d = λ d l. told.1 d (subst (λ n. d < n) (sym all) l) in
     record {
-      sized = ap length value ∙ told.0 ∙ all;
-      few = subst (Few k.model k.exact 255) (sym value)
-          (few_start (weaken k.laws) k.exact g.met.C.CostModel.sized (moves_of index) (has c.args.keep.now) (has c.args.goal.now) (count_of index) (index_within index) (index_timely index) 255 t (told.0 ∙ all) begun);
+      few = ∣ subst (Few k.model k.exact 255) (sym c.deref.ensures.value)
+          (few_start (weaken k.laws) k.exact g.met.C.CostModel.sized (moves_of index) (has c.args.keep.now) (has c.args.goal.now) (count_of index) (index_within index) (index_timely index) 255 t (told.0 ∙ all) begun) ∣₁;
     }
 
 pub loop-label-init : goal.loop-label-init
@@ -54,8 +52,8 @@ loop-label-init g c =
       offered = λ d l. subst (λ s. Offered k.model ms keep (looked k.exact s) d (looked k.exact u d)) value (offers.1 d (subst (λ n. d < n) (sym len) l));
     }
 
-pub fix-requires : goal.fix-requires
-fix-requires g c =
+pub invariant_of-known-in-Some : goal.invariant_of-known-in-Some
+invariant_of-known-in-Some g c =
     let k = g.C.CostModel in
     let index = c.args.index.now in
     let ms = moves_of index in
@@ -71,27 +69,15 @@ fix-requires g c =
     let offers = vec_items c.loop-label.offers in
     let seen = c.deref-in-loop-label.ensures.value in
     let low : LeastOf k.model k.exact offers (length offers) (Some b) = subst (λ t. LeastOf k.model k.exact t (length t) (Some b)) seen c.in-Some.ensures in
-    let cv = c.deref_mut.ensures.value in
-    let ov = c.deref_mut-in-Some.ensures.value in
     let new = set costs b.condition (Some b.cost) in
     let few = few_next laws k.exact g.met.C.CostModel.sized ms keep goal n within timely costs offers state b low in
     record {
-      sized = ap length cv ∙ state.costs_sized;
-      same = ap length ov ∙ state.offers_sized;
-      few = subst (λ t. Few k.model k.exact 255 (set t b.condition (Some b.cost))) (sym cv)
-          (few_all laws k.exact g.met.C.CostModel.sized ms keep goal n within timely (port_of index).conditions_few new (length-set costs b.condition (Some b.cost) ∙ state.costs_sized) few);
-      within = d_within laws k.exact g.met.C.CostModel.sized ms keep goal n within timely costs offers state b low;
-      rest = λ d l apart.
-          subst (λ t. Offered k.model ms keep (looked k.exact (set t b.condition (Some b.cost))) d (looked k.exact (set c.deref_mut-in-Some.result.now b.condition None) d)) (sym cv)
-          (subst (λ t. Offered k.model ms keep (looked k.exact new) d (looked k.exact (set t b.condition None) d)) (sym ov)
-          (rest_next laws k.exact g.met.C.CostModel.sized ms keep goal n within timely costs offers state b low d l apart));
+      few = ∣ subst (Few k.model k.exact 255) (sym c.deref-in-Some.ensures.value)
+          (few_all laws k.exact g.met.C.CostModel.sized ms keep goal n within timely (port_of index).conditions_few new (length-set costs b.condition (Some b.cost) ∙ state.costs_sized) few) ∣₁;
     }
 
-step : (g : _) (c : goal.After-offers-in-Some-2-1 g) →
-    let k = g.C.CostModel in
-    State k.model k.exact (moves_of c.args.index.now) (has c.args.keep.now) (has c.args.goal.now) (count_of c.args.index.now) (vec_items (with_items c.loop-label.costs c.fix.new.costs)) (vec_items (with_items c.loop-label.offers c.fix.new.offers))
-    × (done (vec_items (with_items c.loop-label.costs c.fix.new.costs)) ≡ suc (done (vec_items c.loop-label.costs)))
-step g c =
+pub renew-requires : goal.renew-requires
+renew-requires g c =
     let k = g.C.CostModel in
     let index = c.args.index.now in
     let ms = moves_of index in
@@ -107,27 +93,75 @@ step g c =
     let offers = vec_items c.loop-label.offers in
     let seen = c.deref-in-loop-label.ensures.value in
     let low : LeastOf k.model k.exact offers (length offers) (Some b) = subst (λ t. LeastOf k.model k.exact t (length t) (Some b)) seen c.in-Some.ensures in
-    let cv = c.deref_mut.ensures.value in
-    let ov = c.deref_mut-in-Some.ensures.value in
-    let cl : length c.fix.new.costs ≡ vec_len c.loop-label.costs = c.fix.auto.costs ∙ ap length cv ∙ sym c.loop-label.costs.ok.0 in
-    let ol : length c.fix.new.offers ≡ vec_len c.loop-label.offers = c.fix.auto.offers ∙ ap length ov ∙ sym c.loop-label.offers.ok.0 in
-    let cr = with_items_is c.loop-label.costs c.fix.new.costs cl in
-    let or = with_items_is c.loop-label.offers c.fix.new.offers ol in
-    let same : c.fix.new.costs ≡ set costs b.condition (Some b.cost) = c.fix.ensures.costs ∙ ap (λ t. set t b.condition (Some b.cost)) cv in
-    subst (λ t. State k.model k.exact ms keep goal n t (vec_items (with_items c.loop-label.offers c.fix.new.offers)) × (done t ≡ suc (done costs))) (sym cr)
-    (subst (λ t. State k.model k.exact ms keep goal n c.fix.new.costs t × (done c.fix.new.costs ≡ suc (done costs))) (sym or)
-    (state_next laws k.exact g.met.C.CostModel.sized ms keep goal n within timely costs offers state b low c.fix.new.costs c.fix.new.offers same (ol ∙ c.loop-label.offers.ok.0 ∙ state.offers_sized) c.fix.ensures.offers))
+    let new = set costs b.condition (Some b.cost) in
+    let cv = c.deref-in-Some.ensures.value in
+    let ov = c.deref_mut.ensures.value in
+    let all : length c.deref_mut.result.now ≡ n = ap length ov ∙ length-set offers b.condition None ∙ state.offers_sized in
+    λ d l apart.
+        subst (λ t. Offered k.model ms keep (looked k.exact t) d (looked k.exact c.deref_mut.result.now d)) (sym cv)
+        (subst (λ t. Offered k.model ms keep (looked k.exact new) d (looked k.exact t d)) (sym ov)
+        (rest_next laws k.exact g.met.C.CostModel.sized ms keep goal n within timely costs offers state b low d (subst (λ m. d < m) all l) apart))
 
 pub loop-label-smaller : goal.loop-label-smaller
 loop-label-smaller g c =
-    let s = step g c in
+    let k = g.C.CostModel in
+    let index = c.args.index.now in
+    let ms = moves_of index in
+    let n = count_of index in
+    let keep = has c.args.keep.now in
+    let goal = has c.args.goal.now in
+    let within = index_within index in
+    let timely = index_timely index in
+    let laws = weaken k.laws in
+    let b = c.in-Some.label in
+    let state = c.loop-label.invariant in
+    let costs = vec_items c.loop-label.costs in
+    let offers = vec_items c.loop-label.offers in
+    let seen = c.deref-in-loop-label.ensures.value in
+    let low : LeastOf k.model k.exact offers (length offers) (Some b) = subst (λ t. LeastOf k.model k.exact t (length t) (Some b)) seen c.in-Some.ensures in
+    let new = set costs b.condition (Some b.cost) in
+    let cv = c.deref-in-Some.ensures.value in
+    let ov = c.deref_mut.ensures.value in
+    let all : length c.deref_mut.result.now ≡ n = ap length ov ∙ length-set offers b.condition None ∙ state.offers_sized in
+    let size : length c.renew.new.offers ≡ n = c.renew.auto.offers ∙ all in
+    let kept : vec_items (with_items (with_item c.loop-label.offers b.condition None) c.renew.new.offers) ≡ c.renew.new.offers =
+    with_items_is (with_item c.loop-label.offers b.condition None) c.renew.new.offers (size ∙ sym state.offers_sized ∙ sym c.loop-label.offers.ok.0) in
+    let off : AllOffered k.model ms keep n (looked k.exact new) (looked k.exact c.renew.new.offers) =
+    λ d l. subst (λ t. Offered k.model ms keep (looked k.exact t) d (looked k.exact c.renew.new.offers d)) cv (c.renew.ensures d (subst (λ m. d < m) (sym all) l)) in
+    let s = state_next laws k.exact g.met.C.CostModel.sized ms keep goal n within timely costs offers state b low new c.renew.new.offers refl size off in
     let more = s.1 in
-    let most = done_most (vec_items (with_items c.loop-label.costs c.fix.new.costs)) in
-    let size = s.0.costs_sized in
+    let most = done_most new in
+    let wide = s.0.costs_sized in
     omega arith
 
 pub loop-label-preserved : goal.loop-label-preserved
-loop-label-preserved g c = (step g c).0
+loop-label-preserved g c =
+    let k = g.C.CostModel in
+    let index = c.args.index.now in
+    let ms = moves_of index in
+    let n = count_of index in
+    let keep = has c.args.keep.now in
+    let goal = has c.args.goal.now in
+    let within = index_within index in
+    let timely = index_timely index in
+    let laws = weaken k.laws in
+    let b = c.in-Some.label in
+    let state = c.loop-label.invariant in
+    let costs = vec_items c.loop-label.costs in
+    let offers = vec_items c.loop-label.offers in
+    let seen = c.deref-in-loop-label.ensures.value in
+    let low : LeastOf k.model k.exact offers (length offers) (Some b) = subst (λ t. LeastOf k.model k.exact t (length t) (Some b)) seen c.in-Some.ensures in
+    let new = set costs b.condition (Some b.cost) in
+    let cv = c.deref-in-Some.ensures.value in
+    let ov = c.deref_mut.ensures.value in
+    let all : length c.deref_mut.result.now ≡ n = ap length ov ∙ length-set offers b.condition None ∙ state.offers_sized in
+    let size : length c.renew.new.offers ≡ n = c.renew.auto.offers ∙ all in
+    let kept : vec_items (with_items (with_item c.loop-label.offers b.condition None) c.renew.new.offers) ≡ c.renew.new.offers =
+    with_items_is (with_item c.loop-label.offers b.condition None) c.renew.new.offers (size ∙ sym state.offers_sized ∙ sym c.loop-label.offers.ok.0) in
+    let off : AllOffered k.model ms keep n (looked k.exact new) (looked k.exact c.renew.new.offers) =
+    λ d l. subst (λ t. Offered k.model ms keep (looked k.exact t) d (looked k.exact c.renew.new.offers d)) cv (c.renew.ensures d (subst (λ m. d < m) (sym all) l)) in
+    let s = state_next laws k.exact g.met.C.CostModel.sized ms keep goal n within timely costs offers state b low new c.renew.new.offers refl size off in
+    subst (State k.model k.exact ms keep goal n new) (sym kept) s.0
 
 pub returns : goal.returns
 returns g c =
