@@ -1,5 +1,7 @@
 -- What a port's limits give of its moves.
 use Rattle.std.proofs.Common.{◌≡◌, ℕ, ◌<◌, ◌≤◌, List, length, vec_items, vec_len, ap, ⊎_elim, arith}
+use Rattle.std.specs.List.Sorted.{IsNonDecreasingBy}
+use Rattle.std.proofs.lemmas.List.Sorted.{IsNonDecreasingBy-from_default}
 use Rattle.std.proofs.lemmas.Bool.{cases_lt}
 use Rattle.port.specs.Limits.{In, at, no_move, key, MovesExist, MovesRise}
 use Rattle.port.specs.declared.Move.{Move}
@@ -43,3 +45,9 @@ index_timely index = in_each no_move (λ m. m.minutes < 65536) (moves_of index) 
 
 pub port_exist : (p : Port) → MovesExist (vec_len p.conditions) 256 (vec_items p.moves)
 port_exist p = exist_wide (vec_len p.conditions) p.header.operations (vec_items p.moves) p.operations_few p.moves_exist
+
+-- the moves of a port stand in order of condition
+pub port_sorted : (p : Port) → IsNonDecreasingBy (λ (m : Move). m.condition) (vec_items p.moves)
+port_sorted p =
+    IsNonDecreasingBy-from_default (λ (m : Move). m.condition) (vec_items p.moves) no_move
+    (conditions_rise (vec_len p.conditions) (vec_items p.moves) p.conditions_few (port_exist p) p.moves_rise)

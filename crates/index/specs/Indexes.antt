@@ -1,5 +1,5 @@
 -- Where the moves from a condition, and those into one, are found.
-use Rattle.std.specs.Prelude.{◌≡◌, ℕ, ◌+◌, ◌*◌, ◌<◌, ◌≤◌, Bool, true, false, List, length, ◌≢◌, slice_index, slice_index_or}
+use Rattle.std.specs.Prelude.{◌≡◌, ℕ, ◌<◌, ◌≤◌, Bool, true, false, List, [], length, ◌≢◌, slice_index, slice_index_or}
 use Rattle.port.specs.Limits.{at, In}
 use Rattle.port.specs.declared.Move.{Move}
 
@@ -7,29 +7,24 @@ use Rattle.port.specs.declared.Move.{Move}
 abbrev pub Timed : List Move → Type 0
 Timed ms = (i : ℕ) → i < length ms → (at ms i).minutes < 65536
 
--- each place of the first n is one of the list, or its end
-abbrev pub Ends : ℕ → List Move → List ℕ → Type 0
-Ends n ms starts = (c : ℕ) → c < n → slice_index starts c ≤ length ms
+-- The place where the moves of condition c begin: it is one of the list, or its end; before it conditions are below c, and from there
+-- on they are not.
+pub record Start (ms : List Move) (c place : ℕ) : Type 0 where
+  pub inside : place ≤ length ms
+  pub behind : (i : ℕ) → i < place → (at ms i).condition < c
+  pub ahead : (i : ℕ) → place ≤ i → i < length ms → c ≤ (at ms i).condition
 
--- before the place of c conditions are below c
-abbrev pub Behind : ℕ → List Move → List ℕ → Type 0
-Behind n ms starts = (c : ℕ) → c < n → (i : ℕ) → i < slice_index starts c → (at ms i).condition < c
-
--- and from there on they are not
-abbrev pub Ahead : ℕ → List Move → List ℕ → Type 0
-Ahead n ms starts = (c : ℕ) → c < n → (i : ℕ) → (slice_index starts c ≤ i) × (i < length ms) → c ≤ (at ms i).condition
-
--- all three: the places of the first n are where their moves begin
+-- such a place for each of the first n conditions
 abbrev pub Starts : ℕ → List Move → List ℕ → Type 0
-Starts n ms starts = Ends n ms starts × Behind n ms starts × Ahead n ms starts
+Starts n ms starts = (c : ℕ) → c < n → Start ms c (slice_index starts c)
 
--- the flag of the pair of an outcome and a condition, in rows of 256
-abbrev pub flag_of : Move → ℕ
-flag_of m = m.outcome * 256 + m.condition
+-- whether a row for each outcome, of a flag for each condition, has the flag of a move set
+abbrev pub flagged : List (List Bool) → ℕ → ℕ → Bool
+flagged into c d = slice_index_or (slice_index_or into d []) c false
 
 -- the flag of each of the first i moves is set
-abbrev pub Flags : List Move → ℕ → List Bool → Type 0
-Flags ms i into = (j : ℕ) → j < i → slice_index_or into (flag_of (at ms j)) false ≡ true
+abbrev pub Flags : List Move → ℕ → List (List Bool) → Type 0
+Flags ms i into = (j : ℕ) → j < i → flagged into (at ms j).condition (at ms j).outcome ≡ true
 
 -- the moves stand in order of operation
 abbrev pub Ordered : List Move → Type 0

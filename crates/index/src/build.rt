@@ -1,8 +1,9 @@
 // How the index of a port is made.
-ghost use Rattle.std.specs.Prelude.{◌≡◌, ℕ, ◌+◌, ◌*◌, ◌<◌, ◌≤◌, true, length, IfOk, vec_len};
-ghost use Rattle.port.specs.Limits.{at, MovesExist, MovesRise};
+ghost use Rattle.std.specs.Prelude.{◌≡◌, ◌+◌, ◌≤◌, length, IfOk, vec_len};
+ghost use Rattle.std.specs.List.Sorted.{IsNonDecreasingBy};
+ghost use Rattle.port.specs.Limits.{MovesExist};
 ghost use Rattle.index.specs.Indexed.{port_of};
-ghost use Rattle.index.specs.Indexes.{Flags, Starts, Timed};
+ghost use Rattle.index.specs.Indexes.{Flags, Start, Starts, Timed};
 
 use super::MoveIndex;
 use port::{Move, Port};
@@ -15,6 +16,7 @@ fn minutes_of(m: &Move) -> u16
 }
 
 // The minutes of every move are small, as their type says: the loop does nothing but show it.
+// Stays: of a field that is read with no call, the prover knows no range, and so none of the moves of a slice.
 fn bound_minutes(moves: &[Move])
     ensures { Timed moves.now }
 {
@@ -23,47 +25,32 @@ fn bound_minutes(moves: &[Move])
     }
 }
 
-// The first place from `from` on where the condition is `c` or above.
-fn first_from(moves: &[Move], from: usize, c: usize) -> usize
-    requires { from ≤ length moves.now }
-    ensures after { from ≤ result }
-    ensures inside { result ≤ length moves.now }
-    ensures below { (i : ℕ) → from ≤ i → i < result → (at moves.now i).condition < c }
-    ensures above { result < length moves.now → c ≤ (at moves.now result).condition }
+// Where the moves of condition `c` begin.
+fn start_of(moves: &[Move], c: usize) -> usize
+    requires { IsNonDecreasingBy (λ m. m.condition) moves.now }
+    ensures { Start moves.now c result }
 {
-    for i in from..moves.len() {
-        if moves[i].condition as usize >= c {
-            return i;
-        }
-    }
-    moves.len()
+    moves.partition_point(|m| (m.condition as usize) < c)
 }
 
 // Where the moves of each condition begin, and where those of the last end.
 fn starts_of(heap: Global, conditions: usize, moves: &[Move]) -> Result<Vec<usize>, AllocError>
     requires few { conditions ≤ 256 }
-    requires exist { MovesExist conditions 256 moves.now }
-    requires rise { MovesRise moves.now }
+    requires sorted { IsNonDecreasingBy (λ m. m.condition) moves.now }
     ensures { IfOk result (λ v. (vec_len v ≡ conditions + 1) × Starts (conditions + 1) moves.now v.items) }
 {
-    let mut starts = Vec::new(heap);
-    let mut at = 0;
-    for c in 0..conditions + 1 {
-        at = first_from(moves, at, c);
-        starts.push(at)?;
-    }
-    Ok(starts)
+    (0..conditions + 1).map(|c| start_of(moves, c)).collect(heap)
 }
 
 // For each outcome, from which conditions a move leads to it.
-fn into_of(heap: Global, conditions: usize, moves: &[Move]) -> Result<Vec<bool>, AllocError>
+fn into_of(heap: Global, conditions: usize, moves: &[Move]) -> Result<Vec<[bool; 256]>, AllocError>
     requires few { conditions ≤ 256 }
     requires exist { MovesExist conditions 256 moves.now }
-    ensures { IfOk result (λ v. (vec_len v ≡ conditions * 256) × Flags moves.now (length moves.now) v.items) }
+    ensures { IfOk result (λ v. (vec_len v ≡ conditions) × Flags moves.now (length moves.now) v.items) }
 {
-    let mut into = vec![in heap; false; conditions * 256]?;
+    let mut into = vec![in heap; [false; 256]; conditions]?;
     for m in moves {
-        into[m.outcome as usize * 256 + m.condition as usize] = true;
+        into[m.outcome as usize][m.condition as usize] = true;
     }
     Ok(into)
 }

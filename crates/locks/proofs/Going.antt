@@ -1,17 +1,27 @@
 -- Where an operation leads: facts that both locks use, and the facts of each.
-use Rattle.std.proofs.Common.{◌≡◌, ℕ, ◌+◌, ◌%◌, ◌<◌, ◌≤◌, true, false, ◌⊎◌, List, [], ◌∷◌, ◌++◌, length, get_or, take, Some, None, Option, sym, refl, ap, ◌∙◌, subst, inl, inr, mod-lt, arith}
-use Rattle.std.proofs.lemmas.List.{take_all}
-use Rattle.port.specs.Limits.{In, no_move}
+use Rattle.std.proofs.Common.{◌≡◌, ℕ, ◌-◌, ◌%◌, ◌<◌, ◌≤◌, true, false, List, [], ◌∷◌, map, length, get_or, drop, Some, None, Option, Ordering, unwrap_or, sym, refl, ap, ◌∙◌, subst, ⊎_elim, mod-lt, arith, true≢false}
+use Rattle.std.specs.Fn.{CalledAt}
+use Rattle.std.specs.Iterator.Runs.{AnyItem, ItemsMapTo, NoKeyBeyond, Run}
+use Rattle.std.specs.List.{HoldsAt}
+use Rattle.std.specs.Option.{IfSome, IsSomeAnd, MatchOption, option_map}
+use Rattle.std.specs.Ordering.{MatchOrdering, is_lt, nat_cmp, ordering_then}
+use Rattle.std.specs.declared.cmp.Ordering.TheVariants.{Less, Equal, Greater}
+use Rattle.std.proofs.lemmas.Cmp.{ranked}
+use Rattle.std.specs.Slice.{IsGetRangeResult}
+use Rattle.std.proofs.lemmas.List.{drop_all, get_or-map, length-drop, length-map, nil_from_length, take_all}
+use denote.Param.Members.{Called, Mut}
+use denote.Ref.{Bor}
+use Rattle.port.specs.Limits.{In, at, no_move}
 use Rattle.port.specs.Model.{Model}
 use Rattle.port.specs.Valid.{Valid}
 use Rattle.port.specs.declared.Move.{Move}
 use Rattle.plans.specs.Plans.{Possible}
-use Rattle.plans.proofs.Index.{in_at}
+use Rattle.plans.proofs.Index.{at_in, in_at}
 use Rattle.locks.specs.Places.{IsAt, place_of, fits}
 use Rattle.locks.specs.Works.{Before, outcomes, change, WorkedNth, WorkedLeast}
 use Rattle.locks.specs.Targets.{Goes, Nearest, named_by}
 use Rattle.locks.proofs.Standing.{place_is, place_none, same_place}
-use Rattle.locks.proofs.Outcomes.{outcome_in, outcome_of, outcome_inside, taken_yes, taken_no}
+use Rattle.locks.proofs.Outcomes.{outcome_in, outcome_of, outcome_inside}
 
 -- ── both ──
 
@@ -62,60 +72,74 @@ goes_nth M m o byte n c d m' v e b named q =
 
 -- ── by the fewest changes ──
 
-in_front : (d x : ℕ) (ds : List ℕ) → In d ds → In d (ds ++ (x ∷ []))
-in_front d x [] i = absurd i
-in_front d x (y ∷ ys) (inl e) = inl e
-in_front d x (y ∷ ys) (inr i) = inr (in_front d x ys i)
-
-in_last : (x : ℕ) (ds : List ℕ) → In x (ds ++ (x ∷ []))
-in_last x [] = inl refl
-in_last x (y ∷ ys) = inr (in_last x ys)
-
-in_either : (d x : ℕ) (ds : List ℕ) → In d (ds ++ (x ∷ [])) → In d ds ⊎ (d ≡ x)
-in_either d x [] (inl e) = inr e
-in_either d x [] (inr i) = absurd i
-in_either d x (y ∷ ys) (inl e) = inl (inl e)
-in_either d x (y ∷ ys) (inr i) = go (in_either d x ys i)
+-- of two pairs of changes and an outcome, one that is not the lesser comes after
+not_lesser : (x d y e : ℕ) → is_lt (ordering_then (nat_cmp y x) (nat_cmp e d)) ≡ false → Before x d y e
+not_lesser x d y e h = go (nat_cmp y x) (nat_cmp e d) (ranked y x (nat_cmp y x) refl) (ranked e d (nat_cmp e d) refl) h
   where
-    go : In d ys ⊎ (d ≡ x) → ((d ≡ y) ⊎ In d ys) ⊎ (d ≡ x)
-    go (inl j) = inl (inr j)
-    go (inr e) = inr e
+    go : (u v : Ordering) → MatchOrdering u (y < x) (y ≡ x) (x < y) → MatchOrdering v (e < d) (e ≡ d) (d < e) → is_lt (ordering_then u v) ≡ false → Before x d y e
+    go Less v p q t = absurd (true≢false t)
+    go Greater v p q t = (omega arith, λ l. absurd (omega arith))
+    go Equal Less p q t = absurd (true≢false t)
+    go Equal Equal p q t = (omega arith, λ l. omega arith)
+    go Equal Greater p q t = (omega arith, λ l. omega arith)
 
-before_chain : (x d y e z f : ℕ) → Before x d y e → Before y e z f → Before x d z f
-before_chain x d y e z f p q =
-    let a : x ≤ y = p.0 in
-    let b : y ≤ z = q.0 in (
-      omega arith,
-      λ h.
-          let u : d ≤ e = p.1 (omega arith) in
-          let v : e ≤ f = q.1 (omega arith) in
-          omega arith,
-    )
+abbrev pub outcome_at : Bor Move → ℕ
+outcome_at m = m.now.outcome
 
-module _ (changes : ℕ → ℕ) (ds : List ℕ) (x : ℕ) where
-  itself : (e : ℕ) → e ≡ x → Before (changes x) x (changes e) e
-  itself e q = let s : changes e ≡ changes x = ap changes q in (omega arith, λ h. omega arith)
+-- The least of the moves, by what each changes and then by its outcome.
+module _ {S F : Type 0} {steps : S → Option (Bor Move) → S → Type 0} (p : Run steps) (g : Mut F (Bor (Bor Move) × Unit {0}) (ℕ × ℕ)) (f : F) (ms : List Move) (changes : ℕ → ℕ)
+    (reads : ItemsMapTo p (λ (y : Bor Move). y.now) ms) (whole : p.whole ≡ true)
+    (keyed : (a : Bor (Bor Move) × Unit {0}) (k : ℕ × ℕ) (f' : F) → Called g f a k f' → ((k.0 ≡ changes a.0.now.now.outcome) × (k.1 ≡ a.0.now.now.outcome)) × (f' ≡ f)) where
+  abbrev pub names : List ℕ
+  names = map (λ (m : Move). m.outcome) ms
 
-  pub nearest_first : Nearest changes ds None → Nearest changes (ds ++ (x ∷ [])) (Some x)
-  nearest_first h = (in_last x ds, λ e i. go e (in_either e x ds i))
+  item_at : (k : ℕ) (o : Option (Bor Move)) (m : Bor Move) → IfSome o (λ x. HoldsAt (λ y. x.now ≡ y) ms k) → IsSomeAnd o (λ x. x ≡ m) → m.now ≡ at ms k
+  item_at k None m h e = absurd e
+  item_at k (Some x) m h e = subst (λ (z : Bor Move). z.now ≡ at ms k) e (h no_move)
+
+  of_key : (m : Bor Move) (k : ℕ × ℕ) → CalledAt g f m k f → (k.0 ≡ changes m.now.outcome) × (k.1 ≡ m.now.outcome)
+  of_key m k c =
+      let q = (keyed (c.shown, tt) k f c.called).0 in
+      subst (λ (z : Bor Move). (k.0 ≡ changes z.now.outcome) × (k.1 ≡ z.now.outcome)) c.shows q
+
+  after : (m : Bor Move) (k : ℕ × ℕ) → CalledAt g f m k f → (j : ℕ) (o : Option (Bor Move)) → option_map (λ (y : Bor Move). y.now) o ≡ Some (at ms j) →
+      IfSome o (λ x. (l : ℕ × ℕ) × CalledAt g f x l f × (is_lt (ordering_then (nat_cmp l.0 k.0) (nat_cmp l.1 k.1)) ≡ false)) →
+      Before (changes m.now.outcome) m.now.outcome (changes (at ms j).outcome) (at ms j).outcome
+  after m k c j None e h = let z : ◌≡◌ {A = ℕ} 0 1 = cc in absurd (omega arith)
+  after m k c j (Some x) e h =
+      let a = of_key m k c in
+      let b = of_key x h.0 h.1 in
+      let same : x.now ≡ at ms j = cc in
+      let t = not_lesser k.0 k.1 h.0.0 h.0.1 h.2 in
+      subst (λ (z : Move). Before (changes m.now.outcome) m.now.outcome (changes z.outcome) z.outcome) same
+      (subst (λ (n : ℕ). Before (changes m.now.outcome) n (changes x.now.outcome) x.now.outcome) a.1
+      (subst (λ (n : ℕ). Before n k.1 (changes x.now.outcome) x.now.outcome) a.0
+      (subst (λ (n : ℕ). Before k.0 k.1 (changes x.now.outcome) n) b.1 (subst (λ (n : ℕ). Before k.0 k.1 n h.0.1) b.0 t))))
+
+  pub nearest_of : (r : Option (Bor Move)) → MatchOption r (p.len ≡ 0) (λ m. AnyItem p (λ x. x ≡ m) × NoKeyBeyond p g f is_lt (λ (a b : ℕ × ℕ). ordering_then (nat_cmp a.0 b.0) (nat_cmp a.1 b.1)) m) →
+      Nearest changes names (option_map outcome_at r)
+  nearest_of None h =
+      let none : ms ≡ [] = nil_from_length ms (sym (reads.1 whole) ∙ h) in
+      λ e i. subst (λ (xs : List Move). In e (map (λ (m : Move). m.outcome) xs)) none i
+  nearest_of (Some m) h =
+      let k = h.0.0 in
+      let l : k < length ms = omega (arith, h.0.1, reads.1 whole) in
+      let is : m.now ≡ at ms k = item_at k (p.at k) m (reads.3 k) h.0.2 in
+      let key = h.1 (λ a r f' c. (keyed a r f' c).1) in (
+        subst (λ (z : Move). In z.outcome names) (sym is) (in_outcomes k l),
+        λ e i.
+            let t = at_in e names 0 i in
+            let j = t.0 in
+            let within : j < length ms = subst (λ (n : ℕ). j < n) (length-map ms (λ (m : Move). m.outcome)) t.1 in
+            let read : (at ms j).outcome ≡ e = sym (get_or-map (λ (m : Move). m.outcome) ms j no_move 0 within) ∙ t.2 in
+            subst (λ (n : ℕ). Before (changes m.now.outcome) m.now.outcome (changes n) n) read
+            (after m key.0 key.1 j (p.at j) (reads.2 j no_move (omega (arith, reads.1 whole))) (key.2 j)),
+      )
     where
-      go : (e : ℕ) → In e ds ⊎ (e ≡ x) → Before (changes x) x (changes e) e
-      go e (inl i) = absurd (h e i)
-      go e (inr q) = itself e q
-
-  pub nearest_stays : (d : ℕ) → Nearest changes ds (Some d) → Before (changes d) d (changes x) x → Nearest changes (ds ++ (x ∷ [])) (Some d)
-  nearest_stays d h b = (in_front d x ds h.0, λ e i. go e (in_either e x ds i))
-    where
-      go : (e : ℕ) → In e ds ⊎ (e ≡ x) → Before (changes d) d (changes e) e
-      go e (inl i) = h.1 e i
-      go e (inr q) = subst (λ (y : ℕ). Before (changes d) d (changes y) y) (sym q) b
-
-  pub nearest_yields : (d : ℕ) → Nearest changes ds (Some d) → Before (changes x) x (changes d) d → Nearest changes (ds ++ (x ∷ [])) (Some x)
-  nearest_yields d h b = (in_last x ds, λ e i. go e (in_either e x ds i))
-    where
-      go : (e : ℕ) → In e ds ⊎ (e ≡ x) → Before (changes x) x (changes e) e
-      go e (inl i) = before_chain (changes x) x (changes d) d (changes e) e b (h.1 e i)
-      go e (inr q) = itself e q
+      in_outcomes : (k : ℕ) → k < length ms → In (at ms k).outcome names
+      in_outcomes k l =
+          subst (λ (n : ℕ). In n names) (get_or-map (λ (m : Move). m.outcome) ms k no_move 0 l)
+          (in_at names k 0 (subst (λ (n : ℕ). k < n) (sym (length-map ms (λ (m : Move). m.outcome))) l))
 
 pub goes_least : (M : Model) (m o c d m' : ℕ) → Valid M → Some c ≡ place_of M.conditions m →
     Nearest (change M c) (outcomes M.moves c o) (Some d) → m' ≡ get_or M.conditions d 0 → WorkedLeast M m o m'
@@ -130,24 +154,12 @@ goes_least M m o c d m' v e n q = (
   ),
 )
 
--- ── through the moves ──
+-- ── what is left of a script ──
 
-module _ (changes : ℕ → ℕ) (xs ys : List Move) (i c o : ℕ) (best : Option ℕ) (same : xs ≡ ys) where
-  pub nearest_passes : i < length xs → fits c o (get_or xs i no_move) ≡ false → Nearest changes (outcomes (take i ys) c o) best →
-      Nearest changes (outcomes (take (i + 1) ys) c o) best
-  nearest_passes l h n =
-      let e = ap (λ (zs : List Move). outcomes (take (i + 1) zs) c o) (sym same) ∙ taken_no xs i c o no_move l h ∙ ap (λ (zs : List Move). outcomes (take i zs) c o) same in
-      subst (λ (ds : List ℕ). Nearest changes ds best) (sym e) n
-
-  pub nearest_more : (r : ℕ) → i < length xs → fits c o (get_or xs i no_move) ≡ true → Nearest changes (outcomes (take i ys) c o) best →
-      ((ds : List ℕ) → Nearest changes ds best → Nearest changes (ds ++ ((get_or xs i no_move).outcome ∷ [])) (Some r)) →
-      Nearest changes (outcomes (take (i + 1) ys) c o) (Some r)
-  nearest_more r l h n step =
-      let e = ap (λ (zs : List Move). outcomes (take (i + 1) zs) c o) (sym same) ∙ taken_yes xs i c o no_move l h
-      ∙ ap (λ (zs : List Move). outcomes (take i zs) c o ++ ((get_or xs i no_move).outcome ∷ [])) same in
-      subst (λ (ds : List ℕ). Nearest changes ds (Some r)) (sym e) (step (outcomes (take i ys) c o) n)
-
-  pub nearest_all : length xs ≤ i → Nearest changes (outcomes (take i ys) c o) best → Nearest changes (outcomes ys c o) best
-  nearest_all l n =
-      let l' : length ys ≤ i = subst (λ (zs : List Move). length zs ≤ i) same l in
-      subst (λ (zs : List Move). Nearest changes (outcomes zs c o) best) (take_all i ys l') n
+pub rest_of : (script : List ℕ) (r : Option (Bor (List ℕ))) (none left : Bor (List ℕ)) → IsGetRangeResult script 1 (length script) r → left ≡ unwrap_or r none → none.now ≡ [] →
+    left.now ≡ drop 1 script
+rest_of script None none left h e n =
+    let short : length script ≤ 1 = ⊎_elim (λ q. omega arith) (λ q. omega arith) h.0 in
+    ap (λ (x : Bor (List ℕ)). x.now) e ∙ n ∙ sym (drop_all 1 script short)
+rest_of script (Some x) none left h e n =
+    ap (λ (y : Bor (List ℕ)). y.now) e ∙ h.0.2 ∙ take_all (length script - 1) (drop 1 script) (omega (arith, length-drop 1 script))

@@ -1,7 +1,10 @@
 -- Facts on the place of marks among the conditions, and on possible operations.
-use Rattle.std.proofs.Common.{◌≡◌, ℕ, zero, suc, ◌+◌, ◌<◌, ◌≤◌, Bool, true, false, ◌||◌, eqb, ◌⊎◌, List, [], ◌∷◌, length, get_or, drop, is_some, Some, None, Option, sym, refl, ap, ◌∙◌, subst, inl, inr, arith}
-use Rattle.std.proofs.lemmas.List.{drop_more, drop_all}
-use Rattle.std.proofs.lemmas.Bool.{and_parts, and_from, eqb-true, eq-eqb, ne_eqb, cases_Bool, cases_order, cond-true, cond-false, or_left, or_right, or_cases, false≢true}
+use Rattle.std.proofs.Common.{◌≡◌, ℕ, zero, suc, ◌+◌, ◌<◌, ◌≤◌, Bool, true, false, ◌||◌, eqb, ◌⊎◌, List, [], ◌∷◌, length, get_or, is_some, Some, None, Ok, Err, Option, Result, sym, refl, ap, ◌∙◌, subst, inl, inr, ⊎_elim, arith}
+use Rattle.std.specs.List.Sorted.{IsBinarySearchResult}
+use Rattle.std.specs.Ordering.{nat_cmp}
+use Rattle.std.specs.Result.{MatchResult, result_ok}
+use Rattle.std.proofs.lemmas.List.Sorted.{searched}
+use Rattle.std.proofs.lemmas.Bool.{and_parts, and_from, eqb-true, eq-eqb, ne_eqb, cases_Bool, cases_lt, cases_order, cond-true, cond-false, or_left, or_right, or_cases, false≢true}
 use Rattle.port.specs.Limits.{In, Rise}
 use Rattle.port.specs.Model.{Model}
 use Rattle.port.specs.declared.Move.{Move}
@@ -35,6 +38,20 @@ place_missed (x ∷ xs) zero m l h = absurd (omega arith)
 place_missed (x ∷ xs) (suc n) m l h =
     ap next (place_missed xs n m (omega arith) (λ k l'. h (suc k) (omega arith)))
     ∙ sym (cond-false (eqb x m) (Some 0) (next (place_of xs m)) (ne_eqb x m (h 0 (omega arith))))
+
+-- a binary search finds the place
+pub place_searched : (cs : List ℕ) (m : ℕ) (r : Result ℕ ℕ) → Rise cs → IsBinarySearchResult (λ y. nat_cmp y m) cs r → result_ok r ≡ place_of cs m
+place_searched cs m r up b = go r (searched cs m r b climbs)
+  where
+    climbs : (i j : ℕ) → i ≤ j → j < length cs → get_or cs i 0 ≤ get_or cs j 0
+    climbs i j h l = ⊎_elim (λ q. let u = up i j q l in omega arith) (λ q. let e : i ≡ j = omega arith in let s = ap (λ k. get_or cs k 0) e in omega arith) (cases_lt i j)
+
+    go : (r : Result ℕ ℕ) → MatchResult r (λ i. (i < length cs) × (get_or cs i 0 ≡ m)) (λ i. (i ≤ length cs) × ((k : ℕ) → k < i → get_or cs k 0 < m) × ((k : ℕ) → i ≤ k → k < length cs → m < get_or cs k 0)) →
+        result_ok r ≡ place_of cs m
+    go (Ok c) h = place_found cs c m h.0 h.1 (λ k l e. let u = up k c l h.0 in let s = h.1 in omega arith)
+    go (Err i) h =
+        place_missed cs (length cs) m (omega arith)
+        (λ k l e. ⊎_elim (λ q. let u = h.1 k q in omega arith) (λ q. let u = h.2 k q l in omega arith) (cases_lt k i))
 
 -- marks that have a place stand there
 pub place_is : (cs : List ℕ) (m c : ℕ) → place_of cs m ≡ Some c → (c < length cs) × (get_or cs c 0 ≡ m)
@@ -100,17 +117,6 @@ possible_there ms c o t = go ms t.0 t.1.0 t.1.1 t.1.2
     go [] m i p q = absurd i
     go (x ∷ xs) m (inl e) p q = or_left (fits c o x) (possible xs c o) (subst (λ (y : Move). fits c o y ≡ true) e (fits_true c o m p q))
     go (x ∷ xs) m (inr i) p q = or_right (fits c o x) (possible xs c o) (go xs m i p q)
-
-pub possible_yes : (ms : List Move) (i c o : ℕ) (d : Move) → i < length ms → fits c o (get_or ms i d) ≡ true → possible (drop i ms) c o ≡ true
-possible_yes ms i c o d l h =
-    ap (λ (xs : List Move). possible xs c o) (drop_more ms i d l) ∙ or_left (fits c o (get_or ms i d)) (possible (drop (i + 1) ms) c o) h
-
-pub possible_no : (ms : List Move) (i c o : ℕ) (d : Move) → i < length ms → fits c o (get_or ms i d) ≡ false → possible (drop i ms) c o ≡ possible (drop (i + 1) ms) c o
-possible_no ms i c o d l h =
-    ap (λ (xs : List Move). possible xs c o) (drop_more ms i d l) ∙ ap (λ (b : Bool). b || possible (drop (i + 1) ms) c o) h
-
-pub possible_end : (ms : List Move) (i c o : ℕ) → length ms ≤ i → possible (drop i ms) c o ≡ false
-possible_end ms i c o l = ap (λ (xs : List Move). possible xs c o) (drop_all i ms l)
 
 -- ── what is told ──
 

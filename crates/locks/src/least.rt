@@ -1,11 +1,11 @@
 // A lock that goes to the outcome that changes the fewest marks.
-ghost use Rattle.std.specs.Prelude.{◌≡◌, ℕ, true, false, List, [], ◌∷◌, ◌++◌, Some, bit_xor, count_ones};
+ghost use Rattle.std.specs.Prelude.{◌≡◌, true};
 ghost use Rattle.port.specs.Model.{model_of};
 ghost use Rattle.locks.specs.Targets.{Goes, GoesLeast, Nearest};
-ghost use Rattle.locks.specs.Works.{Before, Worked, WorkedLeast, change, outcomes};
+ghost use Rattle.locks.specs.Works.{Worked, WorkedLeast, change, outcomes};
 
 use crate::lock::Lock;
-use crate::places::{condition_of, is_of, marks_of};
+use crate::places::{condition_of, marks_of, moves_of};
 use port::Port;
 
 #[derive(Drop)]
@@ -14,57 +14,19 @@ pub struct LeastChangeLock<'a> {
     marks: u16,
 }
 
-// How many marks differ.
-fn difference(from: u16, to: u16) -> u32
-    ensures { result ≡ count_ones (bit_xor from to) }
+// How many marks differ between two conditions.
+fn difference(port: &Port, from: u8, to: u8) -> u32
+    ensures { result ≡ change (model_of port.now) from to }
 {
-    (from ^ to).count_ones()
-}
-
-// Whether an outcome comes before the best so far: it changes fewer marks, or as many and has a lower number.
-fn is_before(changes: u32, outcome: u8, least: u32, best: u8) -> bool
-    ensures wins { result ≡ true → Before changes outcome least best }
-    ensures loses { result ≡ false → Before least best changes outcome }
-{
-    changes < least || (changes == least && outcome < best)
-}
-
-// Whether an outcome comes before the best so far, from a condition.
-fn is_nearer(port: &Port, condition: u8, outcome: u8, best: u8) -> bool
-    ensures wins { result ≡ true → Before (change (model_of port.now) condition outcome) outcome (change (model_of port.now) condition best) best }
-    ensures loses { result ≡ false → Before (change (model_of port.now) condition best) best (change (model_of port.now) condition outcome) outcome }
-{
-    let from = marks_of(port, condition);
-    let changes = difference(from, marks_of(port, outcome));
-    let least = difference(from, marks_of(port, best));
-    is_before(changes, outcome, least, best)
-}
-
-// The best of some outcomes and one more, by the best of them.
-fn better(port: &Port, condition: u8, best: Option<u8>, outcome: u8) -> u8
-    ensures { (ds : List ℕ) → Nearest (change (model_of port.now) condition) ds best → Nearest (change (model_of port.now) condition) (ds ++ (outcome ∷ [])) (Some result) }
-{
-    match best {
-        Some(best) => if is_nearer(port, condition, outcome, best) {
-            outcome
-        } else {
-            best
-        },
-        None => outcome,
-    }
+    (marks_of(port, from) ^ marks_of(port, to)).count_ones()
 }
 
 // The outcome of the operation that changes the fewest marks, the lowest-numbered among equals, where there is any.
 fn nearest(port: &Port, condition: u8, operation: u8) -> Option<u8>
     ensures { Nearest (change (model_of port.now) condition) (outcomes (model_of port.now).moves condition operation) result }
 {
-    let mut best = None;
-    for m in port.moves.iter() {
-        if is_of(m, condition, operation) {
-            best = Some(better(port, condition, best, m.outcome));
-        }
-    }
-    best
+    let moves = moves_of(port, condition, operation);
+    moves.iter().min_by_key(|m| (difference(port, condition, m.outcome), m.outcome)).map(|m| m.outcome)
 }
 
 impl<'a> LeastChangeLock<'a> {
@@ -112,12 +74,10 @@ impl<'a> Lock for LeastChangeLock<'a> {
         ensures port { self.new.port ≡ self.old.port }
         ensures least { result ≡ true → WorkedLeast (model_of self.old.port.now) self.old.marks operation self.new.marks }
     {
-        match self.target(operation) {
-            Some(marks) => {
-                self.marks = marks;
-                true
-            }
-            None => false,
-        }
+        let Some(marks) = self.target(operation) else {
+            return false;
+        };
+        self.marks = marks;
+        true
     }
 }

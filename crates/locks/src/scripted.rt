@@ -1,11 +1,11 @@
 // A lock that goes where a script says.
-ghost use Rattle.std.specs.Prelude.{◌≡◌, ℕ, true, false, length, drop, slice_index};
+ghost use Rattle.std.specs.Prelude.{◌≡◌, ℕ, true, false, drop, map as mapped, slice_index};
 ghost use Rattle.port.specs.Model.{model_of};
 ghost use Rattle.locks.specs.Targets.{Goes, GoesNth, named_by};
-ghost use Rattle.locks.specs.Works.{InOrder, Worked, WorkedNth, outcomes};
+ghost use Rattle.locks.specs.Works.{InOrder, Worked, WorkedNth};
 
 use crate::lock::Lock;
-use crate::places::{condition_of, is_of, marks_of};
+use crate::places::{condition_of, marks_of, moves_of};
 use port::{Move, Port};
 
 // The script has a byte for each operation that is accepted, which names the outcome.
@@ -17,65 +17,12 @@ pub struct ScriptedLock<'a> {
     script: &'a [u8],
 }
 
-// How many outcomes the operation has in the condition.
-fn count_outcomes(moves: &[Move], condition: u8, operation: u8) -> usize
-    ensures { result ≡ length (outcomes moves.now condition operation) }
+// The outcome among those of the moves that a byte names, where there is any.
+fn named_outcome(moves: &[Move], byte: u8) -> Option<u8>
+    ensures { result ≡ named_by byte (mapped (λ m. m.outcome) moves.now) }
 {
-    let mut count: usize = 0;
-    for m in moves {
-        if is_of(m, condition, operation) {
-            count += 1;
-        }
-    }
-    count
-}
-
-// The outcome with this number among them, counted from 0: past the last, 0.
-fn nth_outcome(moves: &[Move], condition: u8, operation: u8, n: usize) -> u8
-    ensures { result ≡ slice_index (outcomes moves.now condition operation) n }
-{
-    let mut left = n;
-    for m in moves {
-        if is_of(m, condition, operation) {
-            if left == 0 {
-                return m.outcome;
-            }
-            left -= 1;
-        }
-    }
-    0
-}
-
-// The outcome that a byte names, where there is any.
-fn named_outcome(port: &Port, condition: u8, operation: u8, byte: u8) -> Option<u8>
-    ensures { result ≡ named_by byte (outcomes (model_of port.now).moves condition operation) }
-{
-    let count = count_outcomes(&port.moves, condition, operation);
-    if count == 0 {
-        return None;
-    }
-    let n = byte as usize % count;
-    Some(nth_outcome(&port.moves, condition, operation, n))
-}
-
-// The first byte of a script, or 0 once it is used up.
-fn first_of(script: &[u8]) -> u8
-    ensures { result ≡ slice_index script.now 0 }
-{
-    match script {
-        [byte, ..] => *byte,
-        [] => 0,
-    }
-}
-
-// What a script has after its first byte.
-fn rest_of(script: &[u8]) -> &[u8]
-    ensures { result.now ≡ drop 1 script.now }
-{
-    match script {
-        [_, rest @ ..] => rest,
-        [] => script,
-    }
+    let n = (byte as usize).checked_rem(moves.len())?;
+    Some(moves[n].outcome)
 }
 
 impl<'a> ScriptedLock<'a> {
@@ -89,15 +36,15 @@ impl<'a> ScriptedLock<'a> {
         }
     }
 
-    // The marks that the operation leads to by the next byte, where it is possible.
+    // The marks that the operation leads to by the next byte, or by 0 where the script is used up, where it is possible.
     fn target(&self, operation: u8) -> Option<u16>
         ensures goes { Goes (model_of self.now.port.now) self.now.marks operation result }
         ensures named { GoesNth (model_of self.now.port.now) self.now.marks operation (slice_index self.now.script.now 0) result }
         ensures ordered { (c : ℕ) → InOrder (model_of self.now.port.now) c operation }
     {
         let condition = condition_of(self.port, self.marks)?;
-        let byte = first_of(self.script);
-        let outcome = named_outcome(self.port, condition, operation, byte)?;
+        let byte = self.script.first().copied().unwrap_or(0);
+        let outcome = named_outcome(moves_of(self.port, condition, operation), byte)?;
         Some(marks_of(self.port, outcome))
     }
 }
@@ -132,13 +79,11 @@ impl<'a> Lock for ScriptedLock<'a> {
         ensures refused { result ≡ false → self.new ≡ self.old }
         ensures ordered { (c : ℕ) → InOrder (model_of self.old.port.now) c operation }
     {
-        match self.target(operation) {
-            Some(marks) => {
-                self.marks = marks;
-                self.script = rest_of(self.script);
-                true
-            }
-            None => false,
-        }
+        let Some(marks) = self.target(operation) else {
+            return false;
+        };
+        self.marks = marks;
+        self.script = self.script.get(1..).unwrap_or(&[]);
+        true
     }
 }

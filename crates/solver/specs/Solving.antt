@@ -1,5 +1,5 @@
 -- What a solve promises, whole.
-use Rattle.std.specs.Prelude.{◌≡◌, ℕ, suc, ◌+◌, ◌*◌, max, Bool, true, false, cond, ◌&&◌, List, [], ◌∷◌, length, take, drop, Some, None, Ok, Err, Option, Result, ◌==◌, nat_le, slice_index}
+use Rattle.std.specs.Prelude.{◌≡◌, ℕ, count_by, fold, ◌+◌, ◌*◌, max, Bool, true, false, ◌&&◌, List, ◌++◌, length, codes, decimal, take, drop, Some, None, Ok, Err, Option, Result, ◌==◌, nat_le, slice_index}
 use Rattle.plans.specs.Simulation.{Domain}
 use Rattle.costs.specs.Costs.{Model}
 use Rattle.solver.specs.declared.Entry.{Entry}
@@ -17,6 +17,15 @@ abbrev pub refusal_number : SolveError → Option ℕ
 refusal_number Short = Some 12
 refusal_number Memory = None
 
+-- what is printed of a number, or of none
+abbrev pub number_text : Option ℕ → List ℕ
+number_text (Some n) = codes "refused " ++ decimal n
+number_text None = codes "no memory"
+
+-- what a refusal is printed as: by its number, where it has one
+abbrev pub refusal_text : SolveError → List ℕ
+refusal_text e = number_text (refusal_number e)
+
 -- the place of the start pair among the ranks
 abbrev pub start_of : PortModel → ℕ
 start_of m = m.header.stage * length m.conditions + m.header.condition
@@ -28,13 +37,11 @@ pub record Worked {K : Type 0} (k : Model) (e : K → List ℕ) (D : Domain) (ch
 
 -- how many ranks are 0
 abbrev pub zeros : List ℕ → ℕ
-zeros [] = 0
-zeros (r ∷ rs) = cond (r == 0) (suc (zeros rs)) (zeros rs)
+zeros rs = count_by (λ r. r == 0) rs
 
--- the largest rank
+-- the largest rank: 0 where there is none
 abbrev pub largest_of : List ℕ → ℕ
-largest_of [] = 0
-largest_of (r ∷ rs) = max r (largest_of rs)
+largest_of rs = fold (λ top r. max top r) 0 rs
 
 -- how many places a port has in the policy, and how many pairs
 abbrev pub places_of : Domain → ℕ

@@ -3,7 +3,7 @@
 
 ghost use Rattle.std.specs.Prelude.{◌≡◌, Some};
 ghost use Rattle.solver.specs.Policy.{entry_byte, entry_text};
-ghost use Rattle.solver.specs.Solving.{refusal_number};
+ghost use Rattle.solver.specs.Solving.{refusal_number, refusal_text};
 
 mod policy;
 mod solution;
@@ -68,6 +68,17 @@ impl SolveError {
         match self {
             SolveError::Short => Some(12),
             SolveError::Memory => None,
+        }
+    }
+}
+
+impl fmt::Display for SolveError {
+    ghost output = { λ e. Some (refusal_text e) };
+
+    fn fmt<W: fmt::Write>(&self, f: &mut fmt::Formatter<W>) -> fmt::Result {
+        match self.number() {
+            Some(number) => write!(f, "refused {number}"),
+            None => write!(f, "no memory"),
         }
     }
 }

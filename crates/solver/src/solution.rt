@@ -6,7 +6,7 @@ ghost use Rattle.solver.specs.Solving.{Outcome, Worked, largest_of, pairs_of, pl
 ghost use Rattle.solver.specs.declared.SolveError.TheVariants.{Memory};
 
 use crate::policy::choose_all;
-use crate::write::{count_kept, largest, write_costs, write_entries, write_ranks};
+use crate::write::{cost_of, count_kept, largest, write};
 use crate::{Entry, SolveError, Summary};
 use costs::CostModel;
 use port::Port;
@@ -42,13 +42,6 @@ fn work_out<C: CostModel>(heap: Global, port: &Port) -> Result<Solution<C::Cost>
     Ok(Solution { choices, ranks })
 }
 
-// Whether buffers of these lengths have so many places: entries and costs one for each place of the policy, ranks one for each pair.
-fn long_enough(places: usize, pairs: usize, entries: usize, costs: usize, ranks: usize) -> bool
-    ensures { result ≡ (nat_le places entries && (nat_le places costs && nat_le pairs ranks)) }
-{
-    places <= entries && places <= costs && pairs <= ranks
-}
-
 // Whether buffers of these lengths have room for the port.
 pub fn has_room(port: &Port, entries: usize, costs: usize, ranks: usize) -> bool
     ensures { result ≡ (nat_le (places_of (domain_of (model_of port.now))) entries && (nat_le (places_of (domain_of (model_of port.now))) costs && nat_le (pairs_of (domain_of (model_of port.now))) ranks)) }
@@ -56,7 +49,7 @@ pub fn has_room(port: &Port, entries: usize, costs: usize, ranks: usize) -> bool
     let width = port.conditions.len();
     let places = port.requests.len() * width;
     let pairs = port.header.stages as usize * width;
-    long_enough(places, pairs, entries, costs, ranks)
+    places <= entries && places <= costs && pairs <= ranks
 }
 
 // What the ranks of a port come to.
@@ -89,8 +82,8 @@ pub fn solve<C: CostModel>(
         return Err(SolveError::Short);
     }
     let solution = work_out::<C>(heap, port)?;
-    write_entries(&solution.choices, entries);
-    write_costs::<C>(&solution.choices, costs);
-    write_ranks(&solution.ranks, ranks);
+    write(&solution.choices, entries, |choice| Entry::from(choice));
+    write(&solution.choices, costs, |choice| cost_of::<C>(choice));
+    write(&solution.ranks, ranks, |rank| rank);
     Ok(summarize(port, &solution.ranks))
 }

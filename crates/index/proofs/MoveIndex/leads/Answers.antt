@@ -1,11 +1,10 @@
-use Rattle.std.proofs.Common.{◌<◌, sym, ◌∙◌, subst, true≢false}
-use Rattle.index.specs.Indexed.{count_of}
-use Rattle.index.proofs.Bounds.{index_within}
+use Rattle.std.proofs.Common.{◌≡◌, vec_items, sym, ◌∙◌, rules}
+use Rattle.index.specs.Indexes.{flagged}
+use Rattle.index.proofs.Places.{index_apart}
 use Rattle.index.proofs.MoveIndex.leads.Goals as goal
 
-pub returns-else-has_both : goal.returns-else-has_both
-returns-else-has_both c e m h p q =
+pub returns : goal.returns
+returns c e =
     let s = c.args.self.now in
-    let w = index_within s m h in
-    let both = c.has_both.ensures.1 (subst (λ n. n < count_of s) p w.0, subst (λ n. n < count_of s) q w.1) in
-    true≢false (sym both ∙ c.if-has_both.false)
+    let read : c.unwrap_or.result ≡ flagged (vec_items s.into) c.args.c c.args.d = search rules in
+    index_apart s c.args.c c.args.d (sym read ∙ e)

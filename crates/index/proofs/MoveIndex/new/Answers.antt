@@ -1,16 +1,20 @@
-use Rattle.std.proofs.Common.{◌≡◌, ◌≤◌, List, vec_items, vec_len, sym, subst}
-use Rattle.port.specs.Limits.{MovesExist, MovesRise}
+use Rattle.std.proofs.Common.{◌+◌, List, length, vec_items, vec_len, sym, subst}
 use Rattle.port.specs.declared.Move.{Move}
-use Rattle.index.proofs.Bounds.{port_exist}
+use Rattle.index.specs.Indexes.{Flags, Starts, Timed}
 use Rattle.index.proofs.MoveIndex.new.Goals as goal
 
-pub starts_of-requires : goal.starts_of-requires
-starts_of-requires c =
+pub invariant_of-result-clause-timed : goal.invariant_of-result-clause-timed
+invariant_of-result-clause-timed c = subst Timed c.deref.ensures.value c.bound_minutes.ensures
+
+pub invariant_of-result-clause-begin : goal.invariant_of-result-clause-begin
+invariant_of-result-clause-begin c =
     let p = c.args.port.now in
-    let len : c.len-conditions.result ≡ vec_len p.conditions = c.len-conditions.ensures in
-    let value = c.deref-2.ensures.value in
-    record {
-      few = subst (λ n. n ≤ 256) (sym len) p.conditions_few;
-      exist = subst (λ (ms : List Move). MovesExist c.len-conditions.result 256 ms) (sym value) (subst (λ n. MovesExist n 256 (vec_items p.moves)) (sym len) (port_exist p));
-      rise = subst MovesRise (sym value) p.moves_rise;
-    }
+    let starts = vec_items c.in_ok-starts.starts in
+    subst (λ (ms : List Move). Starts (vec_len p.conditions + 1) ms starts) c.deref-2.ensures.value
+    (subst (λ n. Starts (n + 1) c.deref-2.result.now starts) c.len-conditions.ensures c.in_ok-starts.ensures.1)
+
+pub invariant_of-result-clause-flags : goal.invariant_of-result-clause-flags
+invariant_of-result-clause-flags c =
+    let p = c.args.port.now in
+    let into = vec_items c.in_ok-into.into in
+    subst (λ n. Flags (vec_items p.moves) n into) (sym p.moves.ok.0) (subst (λ (ms : List Move). Flags ms (length ms) into) c.deref-3.ensures.value c.in_ok-into.ensures.1)

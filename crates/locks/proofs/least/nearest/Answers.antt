@@ -1,27 +1,20 @@
-use Rattle.std.proofs.Common.{vec_items, sym, ◌∙◌}
+use Rattle.std.proofs.Common.{◌≡◌, ℕ, List, Option, map, option_map, ap, ◌∙◌, subst, sym, rules}
+use Rattle.std.specs.Slice.Iter.{iter_rest}
 use Rattle.port.specs.Model.{model_of}
+use Rattle.port.specs.declared.Move.{Move}
+use Rattle.std.specs.Iterator.Runs.{ItemsMapTo}
+use Rattle.locks.specs.Targets.{Nearest}
 use Rattle.locks.specs.Works.{change}
-use Rattle.locks.proofs.Going.{nearest_passes, nearest_more, nearest_all}
+use Rattle.locks.proofs.Going.{nearest_of, outcome_at}
 use Rattle.locks.proofs.least.nearest.Goals as goal
-use Rattle.locks.proofs.least.nearest.Goals.{then-is_of, else-is_of}
-
-pub loop-m-preserved : goal.loop-m-preserved
-loop-m-preserved c =
-    let changes = change (model_of c.args.port.now) c.args.condition in
-    let items = c.deref-m-items.result.now in
-    let moves = vec_items c.args.port.now.moves in
-    elim c.if-is_of.branch [
-      | then-is_of w ↦
-          rw w.best-is
-          (nearest_more changes items moves c.loop-m.m-index c.args.condition c.args.operation c.loop-m.best c.deref-m-items.ensures.value _
-          c.loop-m-test.true (sym c.is_of.ensures ∙ w.if-is_of.true) c.loop-m.invariant w.better.ensures)
-      | else-is_of w ↦
-          rw w.best-is
-          (nearest_passes changes items moves c.loop-m.m-index c.args.condition c.args.operation c.loop-m.best c.deref-m-items.ensures.value
-          c.loop-m-test.true (sym c.is_of.ensures ∙ w.if-is_of.false) c.loop-m.invariant)
-    ]
 
 pub returns : goal.returns
 returns c =
-    nearest_all (change (model_of c.args.port.now) c.args.condition) c.deref-m-items.result.now (vec_items c.args.port.now.moves) c.loop-m.m-index c.args.condition c.args.operation c.loop-m.best c.deref-m-items.ensures.value
-    c.loop-m-test.false c.loop-m.invariant
+    let changes = change (model_of c.args.port.now) c.args.condition in
+    let ms = c.moves_of-moves.result.now in
+    let run = c.min_by_key.ensures.runs in
+    let rest : iter_rest run.0.from ≡ ms = ap iter_rest run.1 ∙ c.iter.ensures.rest in
+    let reads = subst (λ (xs : List Move). ItemsMapTo run.0 (λ y. y.now) xs) rest (c.iter.ensures.runs run.0 run.0.seen) in
+    let picked = nearest_of run.0 _ _ ms changes reads run.2 (λ a k f' h. search rules) c.min_by_key.result run.3 in
+    let same : c.map.result ≡ option_map outcome_at c.min_by_key.result = search rules in
+    subst (λ (ds : List ℕ). Nearest changes ds c.map.result) c.moves_of-moves.ensures (subst (λ (r : Option ℕ). Nearest changes (map (λ (m : Move). m.outcome) ms) r) (sym same) picked)

@@ -1,18 +1,15 @@
-use Rattle.std.proofs.Common.{arith}
-use Rattle.solver.proofs.Copies.{largest_more, largest_all}
+use Rattle.std.proofs.Common.{ℕ, List, unwrap_or, max, sym, ap, ◌∙◌, map-id}
+use Rattle.std.specs.List.{reduce}
+use Rattle.std.specs.Ordering.{max_by_ordering, nat_cmp}
+use Rattle.std.proofs.lemmas.Iterator.{YieldsList-from_slice}
+use Rattle.std.proofs.lemmas.Iterator.Consumers.{reduce_from_yields_List, YieldsList-from_copied}
+use Rattle.std.proofs.lemmas.List.Folds.{max_of_map}
 use Rattle.solver.proofs.write.largest.Goals as goal
-use Rattle.solver.proofs.write.largest.Goals.{then-top-rank, else-top-rank}
-
-pub loop-rank-preserved : goal.loop-rank-preserved
-loop-rank-preserved c =
-    elim c.if-top-rank.branch [
-      | then-top-rank w ↦
-          largest_more c.args.ranks.now c.loop-rank.rank-index c.loop-rank.top c.if-top-rank.top c.loop-rank-test.true
-          (omega (arith, w.top-is, w.if-top-rank.true)) c.loop-rank.invariant
-      | else-top-rank w ↦
-          largest_more c.args.ranks.now c.loop-rank.rank-index c.loop-rank.top c.if-top-rank.top c.loop-rank-test.true
-          (omega (arith, w.top-is, w.if-top-rank.false)) c.loop-rank.invariant
-    ]
 
 pub returns : goal.returns
-returns c = largest_all _ _ _ c.loop-rank-test.false c.loop-rank.invariant
+returns c =
+    let ranks = c.args.ranks.now in
+    c.unwrap_or.ensures
+    ∙ ap (λ o. unwrap_or o 0) (reduce_from_yields_List _ c.copied.result _ c.max.ensures.ran (YieldsList-from_copied (YieldsList-from_slice ranks cc)))
+    ∙ ap (λ (xs : List ℕ). unwrap_or (reduce (λ (p z : ℕ). max_by_ordering (nat_cmp p z) p z) xs) 0) (sym (map-id ranks))
+    ∙ max_of_map (λ (x : ℕ). x) ranks

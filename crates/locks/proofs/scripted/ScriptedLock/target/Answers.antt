@@ -1,7 +1,7 @@
-use Rattle.std.proofs.Common.{ℕ, Option, sym, subst}
+use Rattle.std.proofs.Common.{◌≡◌, ℕ, List, get_or, Some, None, Option, sym, ap, ◌∙◌, subst, rules}
 use Rattle.port.specs.Model.{model_of}
 use Rattle.plans.proofs.Formed.{port_valid}
-use Rattle.locks.specs.Targets.{Goes}
+use Rattle.locks.specs.Targets.{Goes, named_by}
 use Rattle.locks.specs.Works.{outcomes}
 use Rattle.locks.proofs.Outcomes.{in_order}
 use Rattle.locks.proofs.Going.{goes_nowhere, goes_not, goes_to, goes_nth, named_none, named_in}
@@ -19,9 +19,10 @@ returns-in_err-condition-clause-ordered c d = in_order (model_of c.args.self.now
 pub returns-in_err-outcome-clause-goes : goal.returns-in_err-outcome-clause-goes
 returns-in_err-outcome-clause-goes c =
     let M = model_of c.args.self.now.port.now in
+    let none = c.in_err-outcome.ensures ∙ ap (named_by c.unwrap_or-byte.result) c.moves_of.ensures in
     subst (λ (r : Option ℕ). Goes M c.args.self.now.marks c.args.operation r) (sym c.from_residual-in_err-outcome.ensures)
     (goes_not M c.args.self.now.marks c.args.operation c.in_ok-condition.condition (port_valid c.args.self.now.port.now) c.in_ok-condition.ensures
-    (named_none c.first_of-byte.result (outcomes M.moves c.in_ok-condition.condition c.args.operation) c.in_err-outcome.ensures))
+    (named_none c.unwrap_or-byte.result (outcomes M.moves c.in_ok-condition.condition c.args.operation) none))
 
 pub returns-in_err-outcome-clause-ordered : goal.returns-in_err-outcome-clause-ordered
 returns-in_err-outcome-clause-ordered c d = in_order (model_of c.args.self.now.port.now) d c.args.operation (port_valid c.args.self.now.port.now)
@@ -29,15 +30,18 @@ returns-in_err-outcome-clause-ordered c d = in_order (model_of c.args.self.now.p
 pub returns-clause-goes : goal.returns-clause-goes
 returns-clause-goes c =
     let M = model_of c.args.self.now.port.now in
+    let named = c.in_ok-outcome.ensures ∙ ap (named_by c.unwrap_or-byte.result) c.moves_of.ensures in
     goes_to M c.args.self.now.marks c.args.operation c.in_ok-condition.condition c.in_ok-outcome.outcome c.marks_of.result
     (port_valid c.args.self.now.port.now) c.in_ok-condition.ensures
-    (named_in c.first_of-byte.result c.in_ok-outcome.outcome (outcomes M.moves c.in_ok-condition.condition c.args.operation) c.in_ok-outcome.ensures) c.marks_of.ensures
+    (named_in c.unwrap_or-byte.result c.in_ok-outcome.outcome (outcomes M.moves c.in_ok-condition.condition c.args.operation) named) c.marks_of.ensures
 
 pub returns-clause-named : goal.returns-clause-named
 returns-clause-named c =
     let M = model_of c.args.self.now.port.now in
-    goes_nth M c.args.self.now.marks c.args.operation _ c.first_of-byte.result c.in_ok-condition.condition c.in_ok-outcome.outcome c.marks_of.result
-    (port_valid c.args.self.now.port.now) c.in_ok-condition.ensures c.first_of-byte.ensures c.in_ok-outcome.ensures c.marks_of.ensures
+    let named = c.in_ok-outcome.ensures ∙ ap (named_by c.unwrap_or-byte.result) c.moves_of.ensures in
+    let byte : c.unwrap_or-byte.result ≡ get_or c.args.self.now.script.now 0 0 = search rules in
+    goes_nth M c.args.self.now.marks c.args.operation _ c.unwrap_or-byte.result c.in_ok-condition.condition c.in_ok-outcome.outcome c.marks_of.result
+    (port_valid c.args.self.now.port.now) c.in_ok-condition.ensures byte named c.marks_of.ensures
 
 pub returns-clause-ordered : goal.returns-clause-ordered
 returns-clause-ordered c d = in_order (model_of c.args.self.now.port.now) d c.args.operation (port_valid c.args.self.now.port.now)
