@@ -47,6 +47,7 @@ impl<'a> LeastChangeLock<'a> {
     }
 }
 
+// Stays: the other lock has the first four methods too; a struct that both hold would leave each of them a call, no shorter.
 impl<'a> Lock for LeastChangeLock<'a> {
     ghost home = { λ s. model_of s.port.now };
 

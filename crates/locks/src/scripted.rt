@@ -49,6 +49,7 @@ impl<'a> ScriptedLock<'a> {
     }
 }
 
+// Stays: the other lock has the first four methods too; a struct that both hold would leave each of them a call, no shorter.
 impl<'a> Lock for ScriptedLock<'a> {
     ghost home = { λ s. model_of s.port.now };
 

@@ -22,6 +22,7 @@ pub enum Entry {
 
 impl Entry {
     // The byte by which an entry is known: 255 for none, 254 for there, else the operation.
+    // Stays: callers may know an entry by a byte; in the program it is an enum.
     pub fn byte(self) -> u8
         ensures { result ≡ entry_byte self }
     {
@@ -62,6 +63,7 @@ pub enum SolveError {
 
 impl SolveError {
     // The number of a refusal; want of memory has none.
+    // Stays: a buffer that is too short is refused by number; in the program it is an enum.
     pub fn number(self) -> Option<u8>
         ensures { result ≡ refusal_number self }
     {
