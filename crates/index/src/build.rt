@@ -1,6 +1,5 @@
 // How the index of a port is made.
 ghost use Rattle.std.specs.Prelude.{◌≡◌, ◌+◌, ◌≤◌, length, IfOk, vec_len};
-ghost use Rattle.std.specs.List.Sorted.{IsNonDecreasingBy};
 ghost use Rattle.port.specs.Limits.{MovesExist};
 ghost use Rattle.index.specs.Indexed.{port_of};
 ghost use Rattle.index.specs.Indexes.{Flags, Start, Starts, Timed};
@@ -26,20 +25,18 @@ fn bound_minutes(moves: &[Move])
 }
 
 // Where the moves of condition `c` begin.
-fn start_of(moves: &[Move], c: usize) -> usize
-    requires { IsNonDecreasingBy (λ m. m.condition) moves.now }
-    ensures { Start moves.now c result }
+fn start_of(port: &Port, c: usize) -> usize
+    ensures { Start port.now.moves.items c result }
 {
-    moves.partition_point(|m| (m.condition as usize) < c)
+    port.moves.partition_point(|m| (m.condition as usize) < c)
 }
 
 // Where the moves of each condition begin, and where those of the last end.
-fn starts_of(heap: Global, conditions: usize, moves: &[Move]) -> Result<Vec<usize>, AllocError>
-    requires few { conditions ≤ 256 }
-    requires sorted { IsNonDecreasingBy (λ m. m.condition) moves.now }
-    ensures { IfOk result (λ v. (vec_len v ≡ conditions + 1) × Starts (conditions + 1) moves.now v.items) }
+fn starts_of(heap: Global, port: &Port) -> Result<Vec<usize>, AllocError>
+    ensures { IfOk result (λ v. (vec_len v ≡ vec_len port.now.conditions + 1) × Starts (vec_len port.now.conditions + 1) port.now.moves.items v.items) }
 {
-    (0..conditions + 1).map(|c| start_of(moves, c)).collect(heap)
+    let places = port.conditions.len() + 1;
+    (0..places).map(|c| start_of(port, c)).collect(heap)
 }
 
 // For each outcome, from which conditions a move leads to it.
@@ -60,10 +57,9 @@ impl<'a> MoveIndex<'a> {
     pub fn new(heap: Global, port: &'a Port) -> Result<MoveIndex<'a>, AllocError>
         ensures { IfOk result (λ index. port_of index ≡ port.now) }
     {
-        let conditions = port.conditions.len();
         bound_minutes(&port.moves);
-        let starts = starts_of(heap, conditions, &port.moves)?;
-        let into = into_of(heap, conditions, &port.moves)?;
+        let starts = starts_of(heap, port)?;
+        let into = into_of(heap, port.conditions.len(), &port.moves)?;
         Ok(MoveIndex { port, starts, into })
     }
 }

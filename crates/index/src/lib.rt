@@ -51,6 +51,10 @@ impl MoveIndex<'_> {
     pub fn leads(&self, c: usize, d: usize) -> bool
         ensures { result ≡ false → Apart self.now.port.now.moves.items c d }
     {
-        self.into.get(d).and_then(|row| row.get(c)).copied().unwrap_or(false)
+        self.into
+            .get(d)
+            .and_then(|row| row.get(c))
+            .copied()
+            .unwrap_or(false)
     }
 }

@@ -1,4 +1,4 @@
-use Rattle.std.proofs.Common.{◌≡◌, ◌<◌, ◌≤◌, List, length, sym, ap, subst, arith, rules}
+use Rattle.std.proofs.Common.{◌≡◌, ◌≤◌, List, length, sym, ap, subst, arith, rules}
 use Rattle.port.specs.Limits.{no_move}
 use Rattle.port.specs.declared.Move.{Move}
 use Rattle.index.specs.Indexed.{count_of, moves_of}

@@ -1,20 +1,13 @@
-use Rattle.std.proofs.Common.{◌+◌, List, length, vec_items, vec_len, sym, subst}
+use Rattle.std.proofs.Common.{List, length, vec_items, sym, subst}
 use Rattle.port.specs.declared.Move.{Move}
-use Rattle.index.specs.Indexes.{Flags, Starts, Timed}
+use Rattle.index.specs.Indexes.{Flags, Timed}
 use Rattle.index.proofs.MoveIndex.new.Goals as goal
 
 pub invariant_of-result-clause-timed : goal.invariant_of-result-clause-timed
 invariant_of-result-clause-timed c = subst Timed c.deref.ensures.value c.bound_minutes.ensures
 
-pub invariant_of-result-clause-begin : goal.invariant_of-result-clause-begin
-invariant_of-result-clause-begin c =
-    let p = c.args.port.now in
-    let starts = vec_items c.in_ok-starts.starts in
-    subst (λ (ms : List Move). Starts (vec_len p.conditions + 1) ms starts) c.deref-2.ensures.value
-    (subst (λ n. Starts (n + 1) c.deref-2.result.now starts) c.len-conditions.ensures c.in_ok-starts.ensures.1)
-
 pub invariant_of-result-clause-flags : goal.invariant_of-result-clause-flags
 invariant_of-result-clause-flags c =
     let p = c.args.port.now in
     let into = vec_items c.in_ok-into.into in
-    subst (λ n. Flags (vec_items p.moves) n into) (sym p.moves.ok.0) (subst (λ (ms : List Move). Flags ms (length ms) into) c.deref-3.ensures.value c.in_ok-into.ensures.1)
+    subst (λ n. Flags (vec_items p.moves) n into) (sym p.moves.ok.0) (subst (λ (ms : List Move). Flags ms (length ms) into) c.deref-2.ensures.value c.in_ok-into.ensures.1)

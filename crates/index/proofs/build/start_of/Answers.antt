@@ -1,15 +1,21 @@
-use Rattle.std.proofs.Common.{◌≤◌, ltb, ltb-true, ltb-false, arith, rules}
+use Rattle.std.proofs.Common.{◌≡◌, List, ltb, ltb-true, ltb-false, vec_items, sym, subst, arith, rules}
+use Rattle.std.specs.List.Sorted.{IsNonDecreasingBy}
 use Rattle.std.proofs.lemmas.List.Sorted.{IsPartitionPoint-from_clause, IsPartitionedBy-ltb}
 use Rattle.port.specs.Limits.{at, no_move}
 use Rattle.port.specs.declared.Move.{Move}
+use Rattle.index.specs.Indexes.{Start}
+use Rattle.index.proofs.Bounds.{port_sorted}
 use Rattle.index.proofs.build.start_of.Goals as goal
 
 pub returns : goal.returns
 returns c =
-    let ms = c.args.moves.now in
+    let ms = c.deref.result.now in
+    let same : ms ≡ vec_items c.args.port.now.moves = c.deref.ensures.value in
+    let sorted = subst (λ (xs : List Move). IsNonDecreasingBy (λ (m : Move). m.condition) xs) (sym same) (port_sorted c.args.port.now) in
     let point =
     IsPartitionPoint-from_clause (λ (m : Move). ltb m.condition c.args.c) ms c.partition_point.result c.partition_point.ensures.partitioned
-    (IsPartitionedBy-ltb (λ (m : Move). m.condition) ms c.args.c c.requires) (λ a r f' k. search rules) in
+    (IsPartitionedBy-ltb (λ (m : Move). m.condition) ms c.args.c sorted) (λ a r f' k. search rules) in
+    subst (λ (xs : List Move). Start xs c.args.c c.partition_point.result) same
     record {
       inside = c.partition_point.ensures.bound;
       behind = λ i l. ltb-true (at ms i).condition c.args.c (point.0 i no_move (omega arith) l);
