@@ -17,7 +17,7 @@ use Rattle.port.specs.Valid.{Valid}
 use Rattle.port.specs.declared.Move.{Move}
 use Rattle.plans.specs.Plans.{Possible}
 use Rattle.plans.proofs.Index.{at_in, in_at}
-use Rattle.locks.specs.Places.{IsAt, place_of, fits}
+use Rattle.locks.specs.Places.{IsAt, place_of}
 use Rattle.locks.specs.Works.{Before, outcomes, change, WorkedNth, WorkedLeast}
 use Rattle.locks.specs.Targets.{Goes, Nearest, named_by}
 use Rattle.locks.proofs.Standing.{place_is, place_none, same_place}

@@ -273,3 +273,6 @@ in_order M c o v = record {
   where
     every : (d : ℕ) → Leads M c o d → In d (outcomes M.moves c o)
     every d t = subst (λ (x : ℕ). In x (outcomes M.moves c o)) t.2 (outcome_in M.moves c o t.0 t.1.0 t.1.1 t.1.2)
+
+pub port_in_order : (p : Port) (c o : ℕ) → InOrder (model_of p) c o
+port_in_order p c o = in_order (model_of p) c o (port_valid p)

@@ -26,7 +26,10 @@ fn nearest(port: &Port, condition: u8, operation: u8) -> Option<u8>
     ensures { Nearest (change (model_of port.now) condition) (outcomes (model_of port.now).moves condition operation) result }
 {
     let moves = moves_of(port, condition, operation);
-    moves.iter().min_by_key(|m| (difference(port, condition, m.outcome), m.outcome)).map(|m| m.outcome)
+    moves
+        .iter()
+        .min_by_key(|m| (difference(port, condition, m.outcome), m.outcome))
+        .map(|m| m.outcome)
 }
 
 impl<'a> LeastChangeLock<'a> {

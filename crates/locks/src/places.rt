@@ -19,8 +19,12 @@ pub(crate) fn moves_of(port: &Port, condition: u8, operation: u8) -> &[Move]
     ensures { mapped (λ m. m.outcome) result.now ≡ outcomes (model_of port.now).moves condition operation }
 {
     let wanted = (condition, operation);
-    let start = port.moves.partition_point(|m| (m.condition, m.operation) < wanted);
-    let end = port.moves.partition_point(|m| (m.condition, m.operation) <= wanted);
+    let start = port
+        .moves
+        .partition_point(|m| (m.condition, m.operation) < wanted);
+    let end = port
+        .moves
+        .partition_point(|m| (m.condition, m.operation) <= wanted);
     &port.moves[start..end]
 }
 
@@ -35,7 +39,10 @@ pub fn is_possible(port: &Port, condition: u8, operation: u8) -> bool
 pub(crate) fn marks_of(port: &Port, condition: u8) -> u16
     ensures { result ≡ slice_index (model_of port.now).conditions condition }
 {
-    port.conditions.get(condition as usize).copied().unwrap_or(0)
+    port.conditions
+        .get(condition as usize)
+        .copied()
+        .unwrap_or(0)
 }
 
 // What `condition_of` and `is_possible` look up is what is meant: the theorem is the contract.

@@ -40,7 +40,6 @@ impl<'a> ScriptedLock<'a> {
     fn target(&self, operation: u8) -> Option<u16>
         ensures goes { Goes (model_of self.now.port.now) self.now.marks operation result }
         ensures named { GoesNth (model_of self.now.port.now) self.now.marks operation (slice_index self.now.script.now 0) result }
-        ensures ordered { (c : ℕ) → InOrder (model_of self.now.port.now) c operation }
     {
         let condition = condition_of(self.port, self.marks)?;
         let byte = self.script.first().copied().unwrap_or(0);

@@ -1,5 +1,4 @@
-use Rattle.std.proofs.Common.{◌≡◌, List, vec_items, sym, ap, ◌∙◌, subst, ℕ}
-use Rattle.std.specs.Result.{result_ok}
+use Rattle.std.proofs.Common.{List, sym, ap, ◌∙◌, subst, ℕ}
 use Rattle.port.specs.Limits.{Rise}
 use Rattle.locks.specs.Places.{place_of}
 use Rattle.locks.proofs.Standing.{place_searched}

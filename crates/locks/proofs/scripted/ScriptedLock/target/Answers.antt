@@ -1,9 +1,8 @@
-use Rattle.std.proofs.Common.{◌≡◌, ℕ, List, get_or, Some, None, Option, sym, ap, ◌∙◌, subst, rules}
+use Rattle.std.proofs.Common.{◌≡◌, ℕ, get_or, Option, sym, ap, ◌∙◌, subst, rules}
 use Rattle.port.specs.Model.{model_of}
 use Rattle.plans.proofs.Formed.{port_valid}
 use Rattle.locks.specs.Targets.{Goes, named_by}
 use Rattle.locks.specs.Works.{outcomes}
-use Rattle.locks.proofs.Outcomes.{in_order}
 use Rattle.locks.proofs.Going.{goes_nowhere, goes_not, goes_to, goes_nth, named_none, named_in}
 use Rattle.locks.proofs.scripted.ScriptedLock.target.Goals as goal
 
@@ -13,9 +12,6 @@ returns-in_err-condition-clause-goes c =
     subst (λ (r : Option ℕ). Goes M c.args.self.now.marks c.args.operation r) (sym c.from_residual.ensures)
     (goes_nowhere M c.args.self.now.marks c.args.operation c.in_err-condition.ensures)
 
-pub returns-in_err-condition-clause-ordered : goal.returns-in_err-condition-clause-ordered
-returns-in_err-condition-clause-ordered c d = in_order (model_of c.args.self.now.port.now) d c.args.operation (port_valid c.args.self.now.port.now)
-
 pub returns-in_err-outcome-clause-goes : goal.returns-in_err-outcome-clause-goes
 returns-in_err-outcome-clause-goes c =
     let M = model_of c.args.self.now.port.now in
@@ -23,9 +19,6 @@ returns-in_err-outcome-clause-goes c =
     subst (λ (r : Option ℕ). Goes M c.args.self.now.marks c.args.operation r) (sym c.from_residual-in_err-outcome.ensures)
     (goes_not M c.args.self.now.marks c.args.operation c.in_ok-condition.condition (port_valid c.args.self.now.port.now) c.in_ok-condition.ensures
     (named_none c.unwrap_or-byte.result (outcomes M.moves c.in_ok-condition.condition c.args.operation) none))
-
-pub returns-in_err-outcome-clause-ordered : goal.returns-in_err-outcome-clause-ordered
-returns-in_err-outcome-clause-ordered c d = in_order (model_of c.args.self.now.port.now) d c.args.operation (port_valid c.args.self.now.port.now)
 
 pub returns-clause-goes : goal.returns-clause-goes
 returns-clause-goes c =
@@ -42,6 +35,3 @@ returns-clause-named c =
     let byte : c.unwrap_or-byte.result ≡ get_or c.args.self.now.script.now 0 0 = search rules in
     goes_nth M c.args.self.now.marks c.args.operation _ c.unwrap_or-byte.result c.in_ok-condition.condition c.in_ok-outcome.outcome c.marks_of.result
     (port_valid c.args.self.now.port.now) c.in_ok-condition.ensures byte named c.marks_of.ensures
-
-pub returns-clause-ordered : goal.returns-clause-ordered
-returns-clause-ordered c d = in_order (model_of c.args.self.now.port.now) d c.args.operation (port_valid c.args.self.now.port.now)
