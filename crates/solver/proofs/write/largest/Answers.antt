@@ -1,4 +1,4 @@
-use Rattle.std.proofs.Common.{ℕ, List, unwrap_or, max, sym, ap, ◌∙◌, map-id}
+use Rattle.std.proofs.Common.{ℕ, List, unwrap_or, sym, ap, ◌∙◌, map-id}
 use Rattle.std.specs.List.{reduce}
 use Rattle.std.specs.Ordering.{max_by_ordering, nat_cmp}
 use Rattle.std.proofs.lemmas.Iterator.{YieldsList-from_slice}
