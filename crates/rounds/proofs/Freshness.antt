@@ -1,29 +1,35 @@
--- Rows that say from where each task can be served.
-use Rattle.std.proofs.Common.{◌≡◌, ℕ, ◌+◌, ◌-◌, ◌*◌, ◌<◌, ◌≤◌, Bool, true, false, ◌&&◌, ◌↔◌, List, length, get_or, take, drop, vec_items, sym, refl, ap, ◌∙◌, subst, arith}
+-- The tasks of a port tell those of its domain, and rows that are up to date say from where each can be served.
+use Rattle.std.proofs.Common.{◌≡◌, ℕ, ◌<◌, Bool, true, false, ◌&&◌, ◌↔◌, List, [], map, length, get_or, vec_items, sym, refl, ap, ◌∙◌, subst, ap₂, arith}
 use mathlib.Core.Bool.{false≢true}
-use native.Mathlib.Decide.{ℕ_discrete, dec_lt}
-use Rattle.std.proofs.lemmas.List.{get_or_read}
+use Rattle.std.specs.List.{AllZip}
+use Rattle.std.proofs.lemmas.List.{get_or-map, length-map}
+use Rattle.std.proofs.lemmas.Slice.Zip.{AllZip-long}
+use Rattle.formula.specs.Truth.{truth}
+use Rattle.port.specs.Model.{Model, RequestModel, model_of, request_model}
 use Rattle.port.specs.declared.Move.{Move}
+use Rattle.port.specs.declared.Request.{Request}
+use Rattle.port.specs.declared.held.Port.{Port}
+use Rattle.plans.specs.Domains.{domain_of, task_of}
 use Rattle.plans.specs.Plans.{stop, work}
-use Rattle.plans.specs.Simulation.{Domain, Task, WellFormed}
+use Rattle.plans.specs.Simulation.{Domain, Task as Asked, WellFormed}
 use Rattle.plans.specs.Reach.{Attainable, aim, reached}
-use Rattle.plans.specs.Flags.{has, pairs, task_at, no_task}
+use Rattle.plans.specs.Flags.{has, task_at, no_task}
 use Rattle.plans.proofs.Attain.{stop_attains, attainable_wider}
-use Rattle.plans.proofs.Flags.{reached_by, row_within, row_has}
+use Rattle.plans.proofs.Flags.{reached_by}
+use Rattle.plans.proofs.Formed.{tasks_length}
 use Rattle.plans.proofs.Index.{in_at}
-use Rattle.costs.specs.Costs.{Model}
-use Rattle.search.specs.Answers.{Answer}
+use Rattle.costs.specs.Costs.{Model as Costing}
+use Rattle.search.specs.Answers.{Answer, Answers}
 use Rattle.search.specs.declared.Choice.{Choice}
 use Rattle.search.specs.declared.Choice.TheVariants.{None, There, Work}
-use Rattle.rounds.specs.Legs.{no_leg}
-use Rattle.rounds.specs.Rows.{Agree, Besides}
-use Rattle.rounds.specs.Rounds.{Aimed, Fresh, TasksFor, planned, serving}
-use Rattle.rounds.specs.declared.Leg.{Leg}
-use Rattle.rounds.specs.declared.tasks.Tasks.{Tasks}
-use Rattle.rounds.proofs.Writes.{row_apart}
+use Rattle.rounds.specs.Rows.{both, truths}
+use Rattle.rounds.specs.Rounds.{serving}
+use Rattle.rounds.specs.Tasks.{Fresh, IsTask, SameTexts, TasksOf, Tells, Told, planned}
+use Rattle.rounds.specs.declared.tasks.Task.{Task}
+use Rattle.rounds.proofs.Lists.{all_zip_at, an_element, both_has, both_long}
 
 -- a choice has a plan exactly where some plan attains the goal
-pub planned_iff : {A : Type 0} (k : Model) (e : A → List ℕ) (moves : List Move) (keep goal : ℕ → Bool) (c : ℕ) (x : Choice A) →
+pub planned_iff : {A : Type 0} (k : Costing) (e : A → List ℕ) (moves : List Move) (keep goal : ℕ → Bool) (c : ℕ) (x : Choice A) →
     Answer k e moves keep goal c x → (planned x ≡ true) ↔ Attainable moves keep goal c
 planned_iff k e moves keep goal c None a = (λ t. absurd (false≢true t), λ p. absurd (a p.0 p.1))
 planned_iff k e moves keep goal c There a = (λ t. (stop, stop_attains moves keep goal c a), λ p. refl)
@@ -33,105 +39,78 @@ planned_iff k e moves keep goal c (Work o x) a = (λ t. (work o a.1.next, a.1.pr
 pub task_staged : (D : Domain) → WellFormed D → (i : ℕ) → i < length D.tasks → ((task_at D i).from < D.stages) × ((task_at D i).to < D.stages)
 task_staged D wf i l = wf.staged (task_at D i) (in_at D.tasks i no_task l)
 
--- flags that say what is attainable, with rows that agree with a task's, are what is reached for it
-pub served_fresh : (D : Domain) → WellFormed D → (R : ℕ → ℕ → Bool) (q : Task) (keep goal flags : ℕ → Bool) →
-    ((c : ℕ) → c < D.conditions → keep c ≡ q.keep c) → ((c : ℕ) → c < D.conditions → goal c ≡ aim R q c) →
-    ((c : ℕ) → c < D.conditions → (flags c ≡ true) ↔ Attainable D.moves keep goal c) →
-    (c : ℕ) → c < D.conditions → flags c ≡ reached D q.keep (aim R q) c
-served_fresh D wf R q keep goal flags ks gs found =
-    reached_by D wf q.keep (aim R q) flags
+-- ── rows that are up to date ──
+
+-- the rows that a search leaves
+pub searched : {A : Type 0} (k : Costing) (e : A → List ℕ) (D : Domain) (alive : List Bool) (choices : List (Choice A)) (t : Task) →
+    length (vec_items t.reach) ≡ D.conditions → length alive ≡ D.conditions → vec_items t.goal ≡ both (vec_items t.reach) alive →
+    Answers D.conditions k e D.moves (vec_items t.keep) (vec_items t.goal) choices → vec_items t.served ≡ map planned choices → Fresh D alive t
+searched k e D alive choices t long wide goal a served = record {
+  goal_long = ap length goal ∙ both_long (vec_items t.reach) alive D.conditions long wide;
+  served_long = ap length served ∙ length-map choices planned ∙ a.sized;
+  goal = λ c l. ap (λ fs. has fs c) goal ∙ both_has (vec_items t.reach) alive c;
+  served = λ c l.
+      let here : has (vec_items t.served) c ≡ planned (get_or choices c None) =
+      ap (λ fs. has fs c) served ∙ get_or-map planned choices c None false (omega (arith, a.sized)) in
+      let iff = planned_iff k e D.moves (has (vec_items t.keep)) (has (vec_items t.goal)) c (get_or choices c None) (a.each c l) in
+      (λ b. iff.0 (sym here ∙ b), λ p. here ∙ iff.1 p);
+}
+
+-- rows that are up to date with a set's pairs say from where the task can be served with these to end in
+pub fresh_serving : (D : Domain) → WellFormed D → (R : ℕ → ℕ → Bool) (i : ℕ) (alive : List Bool) (t : Task) → Tells D.conditions (task_at D i) t →
+    Fresh D alive t → ((c : ℕ) → has alive c ≡ R (task_at D i).to c) →
+    (c : ℕ) → c < D.conditions → has (vec_items t.served) c ≡ serving D R i c
+fresh_serving D wf R i alive t told f same =
+    reached_by D wf (task_at D i).keep (aim R (task_at D i)) (has (vec_items t.served))
     (λ x l. (
-      λ t. attainable_wider D.conditions D.moves wf.within keep goal q.keep (aim R q)
-          (λ y h e. sym (ks y h) ∙ e) (λ y h e. sym (gs y h) ∙ e) x l ((found x l).0 t),
-      λ p. (found x l).1 (attainable_wider D.conditions D.moves wf.within q.keep (aim R q) keep goal
-          (λ y h e. ks y h ∙ e) (λ y h e. gs y h ∙ e) x l p),
+      λ b. attainable_wider D.conditions D.moves wf.within (has (vec_items t.keep)) (has (vec_items t.goal)) (task_at D i).keep (aim R (task_at D i))
+          (λ y h e. sym (told.keep y h) ∙ e) (λ y h e. sym (goals y h) ∙ e) x l ((f.served x l).0 b),
+      λ p. (f.served x l).1 (attainable_wider D.conditions D.moves wf.within (task_at D i).keep (aim R (task_at D i)) (has (vec_items t.keep)) (has (vec_items t.goal))
+          (λ y h e. told.keep y h ∙ e) (λ y h e. goals y h ∙ e) x l p),
     ))
-
--- a row of a table, handed on as a part of it
-pub part_at : (flags : List Bool) (i g n : ℕ) → g ≡ n → (c : ℕ) → c < n → has (take (i * g + g - i * g) (drop (i * g) flags)) c ≡ pairs n flags i c
-part_at flags i g n e c h = row_has flags (i * g) g c (subst (λ (k : ℕ). c < k) (sym e) h) ∙ ap (λ (k : ℕ). has flags (i * k + c)) e
-
--- a write besides a row's places leaves it
-pub row_besides : (n : ℕ) (before after : List Bool) (i : ℕ) → Besides before after (i * n) n → (j c : ℕ) → (j ≡ i → ⊥) → c < n →
-    pairs n after j c ≡ pairs n before j c
-row_besides n before after i rest j c ne lc = elim (dec_lt j i) [
-  | yes lt ↦ rest.below (j * n + c) (row_apart j i n c lt lc)
-  | no ge ↦ rest.above (j * n + c) (omega (arith, row_within i j n (j * n) (omega arith) refl))
-]
-
--- the rows of the tasks before i are fresh, and those from i on whose to-stage lost nothing
-abbrev pub FreshFrom : Domain → List Bool → List Bool → List Bool → ℕ → Type 0
-FreshFrom D alive lost served i =
-    (j : ℕ) → j < length D.tasks → (i ≤ j → has lost (task_at D j).to ≡ false) → Fresh D alive served j
-
-pub fresh_passed : (D : Domain) (alive lost served : List Bool) (i : ℕ) → FreshFrom D alive lost served i → has lost (task_at D i).to ≡ false →
-    FreshFrom D alive lost served (i + 1)
-fresh_passed D alive lost served i old e j l h = old j l (λ le. go (ℕ_discrete j i) le)
   where
-    go : Dec (j ≡ i) → i ≤ j → has lost (task_at D j).to ≡ false
-    go (yes p) le = ap (λ (k : ℕ). has lost (task_at D k).to) p ∙ e
-    go (no n) le = h (omega arith)
+    goals : (y : ℕ) → y < D.conditions → has (vec_items t.goal) y ≡ aim R (task_at D i) y
+    goals y h = f.goal y h ∙ ap₂ ◌&&◌ (told.reach y h) (same y)
 
-pub fresh_more : (D : Domain) (alive lost before after : List Bool) (i : ℕ) → FreshFrom D alive lost before i → Fresh D alive after i →
-    Besides before after (i * D.conditions) D.conditions → FreshFrom D alive lost after (i + 1)
-fresh_more D alive lost before after i old here rest j l h c lc = go (ℕ_discrete j i)
+-- what was made with the same texts tells the same
+pub tells_same : (n : ℕ) (q : Asked) (t u : Task) → SameTexts t u → Tells n q t → Tells n q u
+tells_same n q t u s h = record {
+  from = s.from ∙ h.from;
+  to = s.to ∙ h.to;
+  keep_long = ap (λ v. length (vec_items v)) s.keep ∙ h.keep_long;
+  reach_long = ap (λ v. length (vec_items v)) s.reach ∙ h.reach_long;
+  keep = λ c l. ap (λ v. has (vec_items v) c) s.keep ∙ h.keep c l;
+  reach = λ c l. ap (λ v. has (vec_items v) c) s.reach ∙ h.reach c l;
+}
+
+-- ── the tasks of a port ──
+
+tells : (m : Model) (q : RequestModel) (t : Task) → IsTask m.header.marks m.conditions q t → Tells (length m.conditions) (task_of m q) t
+tells m q t h = record {
+  from = h.from;
+  to = h.to;
+  keep_long = ap length h.keep ∙ length-map m.conditions (λ x. truth m.header.marks x q.keep);
+  reach_long = ap length h.reach ∙ length-map m.conditions (λ x. truth m.header.marks x q.reach);
+  keep = λ c l. ap (λ fs. has fs c) h.keep ∙ get_or-map (λ x. truth m.header.marks x q.keep) m.conditions c 0 false l;
+  reach = λ c l. ap (λ fs. has fs c) h.reach ∙ get_or-map (λ x. truth m.header.marks x q.reach) m.conditions c 0 false l;
+}
+
+pub tasks_told : (p : Port) (tasks : List Task) → TasksOf p tasks → Told (domain_of (model_of p)) tasks
+tasks_told p tasks h = record { many = AllZip-long (λ (q : Request) (t : Task). IsTask p.header.marks (vec_items p.conditions) (request_model q) t) (vec_items p.requests) tasks h ∙ sym many; each = each }
   where
-    go : Dec (j ≡ i) → pairs D.conditions after j c ≡ serving D alive j c
-    go (yes p) = subst (λ (k : ℕ). pairs D.conditions after k c ≡ serving D alive k c) (sym p) (here c lc)
-    go (no n) = row_besides D.conditions before after i rest j c n lc ∙ old j l (λ le. h (omega arith)) c lc
+    many : length (domain_of (model_of p)).tasks ≡ length (vec_items p.requests)
+    many = tasks_length (model_of p) ∙ length-map (vec_items p.requests) request_model
 
--- ── one task's turn ──
-
-pub row_fits : (i K n g L : ℕ) → i < K → L ≡ K * n → g ≡ n → i * g + g ≤ L
-row_fits i K n g L l e p = subst (λ (k : ℕ). i * k + k ≤ L) (sym p) (row_within i K n L l e)
-
-module _ (D : Domain) (wf : WellFormed D) (t : Tasks) (f : TasksFor D t) (i : ℕ) (l : i < length D.tasks) where
-  legs_long : i < length (vec_items t.legs)
-  legs_long = omega (arith, f.count, t.legs.ok.0)
-
-  pub leg_to : (x : Leg) → x ≡ get_or (vec_items t.legs) i x → x.to ≡ (task_at D i).to
-  leg_to x is = ap (λ (y : Leg). y.to) (get_or_read (vec_items t.legs) i x legs_long is no_leg) ∙ f.to i l
-
-  pub leg_from : (x : Leg) → x ≡ get_or (vec_items t.legs) i x → x.from ≡ (task_at D i).from
-  leg_from x is = ap (λ (y : Leg). y.from) (get_or_read (vec_items t.legs) i x legs_long is no_leg) ∙ f.from i l
-
-  -- the rows of its stages lie within a table of all pairs
-  pub from_fits : (x : Leg) → x ≡ get_or (vec_items t.legs) i x → (g L : ℕ) → g ≡ D.conditions → L ≡ D.stages * D.conditions → x.from * g + g ≤ L
-  from_fits x is g L eg e =
-      row_fits x.from D.stages D.conditions g L (subst (λ (s : ℕ). s < D.stages) (sym (leg_from x is)) (task_staged D wf i l).0) e eg
-
-  pub leg_staged : (x : Leg) → x ≡ get_or (vec_items t.legs) i x → x.to < D.stages
-  leg_staged x is = subst (λ (s : ℕ). s < D.stages) (sym (leg_to x is)) (task_staged D wf i l).1
-
-  pub leg_leaves : (x : Leg) → x ≡ get_or (vec_items t.legs) i x → x.from < D.stages
-  leg_leaves x is = subst (λ (s : ℕ). s < D.stages) (sym (leg_from x is)) (task_staged D wf i l).0
-
-  pub to_fits : (x : Leg) → x ≡ get_or (vec_items t.legs) i x → (g L : ℕ) → g ≡ D.conditions → L ≡ D.stages * D.conditions → x.to * g + g ≤ L
-  to_fits x is g L eg e = row_fits x.to D.stages D.conditions g L (leg_staged x is) e eg
-
-  -- the row of where it may be worked
-  pub keep_agrees : (keep : List Bool) (g : ℕ) → g ≡ D.conditions → keep ≡ vec_items t.keep →
-      Agree D.conditions (has (take (i * g + g - i * g) (drop (i * g) keep))) (task_at D i).keep
-  keep_agrees keep g eg ek c h = part_at keep i g D.conditions eg c h ∙ ap (λ (ks : List Bool). pairs D.conditions ks i c) ek ∙ f.keep i c l h
-
-  -- the row of where it may end
-  pub goal_aims : (alive goals : List Bool) (g to : ℕ) → g ≡ D.conditions → to ≡ (task_at D i).to →
-      ((c : ℕ) → c < g → has goals (i * g + c) ≡ (has (vec_items t.reach) (i * g + c) && has alive (to * g + c))) →
-      Aimed D alive goals i
-  goal_aims alive goals g to eg et gs c h =
-      ap (λ (n : ℕ). has goals (i * n + c)) (sym eg)
-      ∙ gs c (subst (λ (n : ℕ). c < n) (sym eg) h)
-      ∙ ap (λ (s : ℕ). has (vec_items t.reach) (i * g + c) && has alive (s * g + c)) et
-      ∙ ap (λ (n : ℕ). has (vec_items t.reach) (i * n + c) && has alive ((task_at D i).to * n + c)) eg
-      ∙ ap (λ (b : Bool). b && has alive ((task_at D i).to * D.conditions + c)) (f.reach i c l h)
-
-  -- the row that a search leaves is fresh
-  pub served_row : (alive served goals keep : List Bool) (g : ℕ) → g ≡ D.conditions → keep ≡ vec_items t.keep → Aimed D alive goals i →
-      ((c : ℕ) → c < D.conditions → (has served (i * g + c) ≡ true)
-      ↔ Attainable D.moves (has (take (i * g + g - i * g) (drop (i * g) keep))) (has (take (i * g + g - i * g) (drop (i * g) goals))) c) →
-      Fresh D alive served i
-  served_row alive served goals keep g eg ek gs found c h =
-      ap (λ (n : ℕ). has served (i * n + c)) (sym eg)
-      ∙ served_fresh D wf (pairs D.conditions alive) (task_at D i) (has (take (i * g + g - i * g) (drop (i * g) keep)))
-      (has (take (i * g + g - i * g) (drop (i * g) goals))) (λ x. has served (i * g + x))
-      (keep_agrees keep g eg ek) (λ x lx. part_at goals i g D.conditions eg x lx ∙ gs x lx) found c h
+    each : (i : ℕ) (d : Task) → i < length (domain_of (model_of p)).tasks → Tells (length (vec_items p.conditions)) (task_at (domain_of (model_of p)) i) (get_or tasks i d)
+    each i d l =
+        let lr : i < length (vec_items p.requests) = omega (arith, many) in
+        let r : Request = an_element (vec_items p.requests) i lr in
+        let q : Request = get_or (vec_items p.requests) i r in
+        let here : get_or (map request_model (vec_items p.requests)) i (request_model r) ≡ request_model q =
+        get_or-map request_model (vec_items p.requests) i r (request_model r) lr in
+        let is : task_at (domain_of (model_of p)) i ≡ task_of (model_of p) (request_model q) =
+        get_or-map (task_of (model_of p)) (map request_model (vec_items p.requests)) i (request_model r) no_task (omega (arith, length-map (vec_items p.requests) request_model))
+        ∙ ap (task_of (model_of p)) here in
+        subst (λ (a : Asked). Tells (length (vec_items p.conditions)) a (get_or tasks i d)) (sym is)
+        (tells (model_of p) (request_model q) (get_or tasks i d)
+        (all_zip_at (λ (b : Request) (t : Task). IsTask p.header.marks (vec_items p.conditions) (request_model b) t) (vec_items p.requests) tasks h i r d lr))

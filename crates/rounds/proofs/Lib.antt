@@ -1,6 +1,5 @@
+pub mod Lists
 pub mod Freshness
-pub mod Goings
-pub mod Rows
-pub mod TaskTables
 pub mod Turns
-pub mod Writes
+pub mod Goings
+pub mod Ends

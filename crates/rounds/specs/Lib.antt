@@ -1,5 +1,5 @@
-pub mod Legs
-pub mod Rounds
 pub mod Rows
-pub mod Tables
+pub mod Tasks
+pub mod Stages
+pub mod Rounds
 pub mod Verdicts

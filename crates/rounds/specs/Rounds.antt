@@ -1,76 +1,79 @@
 -- What the rounds over pairs work with. D is the planning domain of the port in hand.
-use Rattle.std.specs.Prelude.{◌≡◌, ℕ, ◌+◌, ◌*◌, ◌<◌, ◌≤◌, min, Bool, true, false, ◌↔◌, List, length, vec_items, vec_len, slice_index}
+use Rattle.std.specs.Prelude.{◌≡◌, ℕ, ◌+◌, ◌*◌, ◌<◌, ◌≤◌, Bool, true, false, ◌&&◌, List, [], ◌∷◌, length, vec_items, slice_index_or}
 use Rattle.port.specs.Model.{model_of}
 use Rattle.plans.specs.Domains.{domain_of}
 use Rattle.plans.specs.Simulation.{Domain, InRange, Kept, Rank}
-use Rattle.plans.specs.Reach.{aim, reached}
-use Rattle.plans.specs.Flags.{Judged, bit, has, pairs, raised, rank_at, task_at}
+use Rattle.plans.specs.Reach.{aim, left, reached}
+use Rattle.plans.specs.Flags.{all_served, bit, raised, task_at}
 use Rattle.index.specs.Indexed.{port_of}
 use Rattle.index.specs.declared.MoveIndex.{MoveIndex}
-use Rattle.search.specs.declared.Choice.{Choice}
-use Rattle.search.specs.declared.Choice.TheVariants.{None, There, Work}
-use Rattle.rounds.specs.Legs.{leg_at}
-use Rattle.rounds.specs.Rows.{Agree}
-use Rattle.rounds.specs.declared.tasks.Tasks.{Tasks}
+use Rattle.rounds.specs.Stages.{left_in, next_in, rank_in}
+use Rattle.rounds.specs.Tasks.{Fresh, Told}
+use Rattle.rounds.specs.declared.tasks.Task.{Task}
+use Rattle.rounds.specs.declared.stages.Stage.{Stage}
 
 -- The planning domain of an indexed port.
 abbrev pub domain_in : MoveIndex → Domain
 domain_in index = domain_of (model_of (port_of index))
 
--- How many places the rows of both texts have.
-abbrev pub places : Tasks → ℕ
-places t = min (vec_len t.keep) (vec_len t.reach)
+-- Task i can be served from condition c, with the pairs of R to end in.
+abbrev pub serving : Domain → (ℕ → ℕ → Bool) → ℕ → ℕ → Bool
+serving D R i c = reached D (task_at D i).keep (aim R (task_at D i)) c
 
--- The tables tell the tasks of the domain: for each its stages, and a row of flags for where its keep and its reach hold.
-pub record TasksFor (D : Domain) (t : Tasks) : Type 0 where
-  pub count : vec_len t.legs ≡ length D.tasks
-  pub from : (i : ℕ) → i < length D.tasks → (leg_at (vec_items t.legs) i).from ≡ (task_at D i).from
-  pub to : (i : ℕ) → i < length D.tasks → (leg_at (vec_items t.legs) i).to ≡ (task_at D i).to
-  pub keep_long : vec_len t.keep ≡ length D.tasks * D.conditions
-  pub reach_long : vec_len t.reach ≡ length D.tasks * D.conditions
-  pub keep : (i c : ℕ) → i < length D.tasks → c < D.conditions → pairs D.conditions (vec_items t.keep) i c ≡ (task_at D i).keep c
-  pub reach : (i c : ℕ) → i < length D.tasks → c < D.conditions → pairs D.conditions (vec_items t.reach) i c ≡ (task_at D i).reach c
+-- A stage's rows have a flag or a number for each of n conditions.
+pub record Wide (n : ℕ) (s : Stage) : Type 0 where
+  pub alive : length (vec_items s.alive) ≡ n
+  pub next : length (vec_items s.next) ≡ n
+  pub ranks : length (vec_items s.ranks) ≡ n
 
--- Task i can be served from condition c, with the pairs of `alive` to end in.
-abbrev pub serving : Domain → List Bool → ℕ → ℕ → Bool
-serving D alive i c = reached D (task_at D i).keep (aim (pairs D.conditions alive) (task_at D i)) c
+-- The rows of the tasks before i are up to date with the pairs that are left, and those from i on whose to-stage lost nothing.
+abbrev pub FreshFrom : Domain → List Task → List Stage → ℕ → Type 0
+FreshFrom D tasks stages i =
+    (j : ℕ) (d : Task) (e : Stage) → j < length D.tasks → (i ≤ j → (slice_index_or stages (task_at D j).to e).lost ≡ false) →
+    Fresh D (vec_items (slice_index_or stages (task_at D j).to e).alive) (slice_index_or tasks j d)
 
--- The row of task i says from where it can be served, with the pairs of `alive` to end in.
-abbrev pub Fresh : Domain → List Bool → List Bool → ℕ → Type 0
-Fresh D alive served i = Agree D.conditions (pairs D.conditions served i) (serving D alive i)
+-- A round may begin: the tasks and stages are those of the domain, each stage's next set begins as what is left, and a task's rows
+-- are out of date only where its to-stage lost a pair.
+pub record Ready (D : Domain) (tasks : List Task) (stages : List Stage) : Type 0 where
+  pub told : Told D tasks
+  pub high : length stages ≡ D.stages
+  pub wide : (s : ℕ) (d : Stage) → s < D.stages → Wide D.conditions (slice_index_or stages s d)
+  pub level : (s : ℕ) (d : Stage) → s < D.stages → vec_items (slice_index_or stages s d).next ≡ vec_items (slice_index_or stages s d).alive
+  pub fresh : FreshFrom D tasks stages 0
 
--- The row of task i says where it may end: its reach holds there, and `alive` has the pair.
-abbrev pub Aimed : Domain → List Bool → List Bool → ℕ → Type 0
-Aimed D alive goals i = Agree D.conditions (pairs D.conditions goals i) (aim (pairs D.conditions alive) (task_at D i))
+-- A stage but for what the round leaves of it.
+pub record SameLeft (before after : Stage) : Type 0 where
+  pub alive : after.alive ≡ before.alive
+  pub ranks : after.ranks ≡ before.ranks
+  pub lost : after.lost ≡ before.lost
 
--- The choice has a plan.
-abbrev pub planned : {K : Type 0} → Choice K → Bool
-planned None = false
-planned There = true
-planned (Work o k) = true
+-- The first i tasks have had their turn in the round: their rows are up to date with the pairs that were left before it, and what they
+-- do not serve with these to end in is taken out of the next set.
+pub record Turned (D : Domain) (before : List Stage) (tasks : List Task) (stages : List Stage) (i : ℕ) : Type 0 where
+  pub told : Told D tasks
+  pub high : length stages ≡ D.stages
+  pub same : (s : ℕ) (d : Stage) → s < D.stages → SameLeft (slice_index_or before s d) (slice_index_or stages s d)
+  pub wide : (s : ℕ) (d : Stage) → s < D.stages → Wide D.conditions (slice_index_or stages s d)
+  pub fresh : FreshFrom D tasks before i
+  pub left : (s c : ℕ) → InRange D s c → next_in stages s c ≡ (left_in before s c && all_served D (serving D (left_in before)) i s c)
 
--- The flags say which pairs are kept, and the numbers are the ranks of all.
-pub record Ranked (D : Domain) (alive : List Bool) (ranks : List ℕ) : Type 0 where
-  pub alive_long : length alive ≡ D.stages * D.conditions
-  pub ranks_long : length ranks ≡ D.stages * D.conditions
-  pub kept : (s c : ℕ) → InRange D s c → (pairs D.conditions alive s c ≡ true) ↔ Kept D s c
-  pub ranked : (s c : ℕ) → InRange D s c → Rank D s c (rank_at D.conditions ranks s c)
+-- After some rounds, the last of which took a pair out or didn't: the pairs that are left, the ranks of all, and, once a round took none
+-- out, that what is left is kept.
+pub record Judged (D : Domain) (alive : ℕ → ℕ → Bool) (rank : ℕ → ℕ → ℕ) (rounds : ℕ) (changed : Bool) : Type 0 where
+  pub alike : (s c : ℕ) → InRange D s c → alive s c ≡ left D rounds s c
+  pub ranked : (s c : ℕ) → InRange D s c → alive s c ≡ false → Rank D s c (rank s c)
+  pub zeros : (s c : ℕ) → InRange D s c → alive s c ≡ true → rank s c ≡ 0
+  pub lasts : changed ≡ false → (s c : ℕ) → InRange D s c → alive s c ≡ true → Kept D s c
 
--- ── what the rounds keep ──
+-- How many pairs are left.
+abbrev pub count_left : List Stage → ℕ
+count_left [] = 0
+count_left (s ∷ stages) = raised (vec_items s.alive) + count_left stages
 
--- The tables between two rounds, after so many of them.
-pub record Going (D : Domain) (goals served lost alive next : List Bool) (ranks : List ℕ) (round : ℕ) (changed : Bool) : Type 0 where
-  pub goals_long : length goals ≡ length D.tasks * D.conditions
-  pub served_long : length served ≡ length D.tasks * D.conditions
-  pub lost_long : length lost ≡ D.stages
-  pub alive_long : length alive ≡ D.stages * D.conditions
-  pub ranks_long : length ranks ≡ D.stages * D.conditions
-  -- the next set begins as the last one ended
-  pub level : next ≡ alive
-  -- a row is out of date only where its to-stage lost a pair
-  pub fresh : (i : ℕ) → i < length D.tasks → has lost (task_at D i).to ≡ false → Fresh D alive served i
-  -- the flags are the pairs left after so many steps of the iteration, and the others have their ranks
-  pub judged : Judged D D.conditions alive ranks round changed
-  pub zeros : (i : ℕ) → has alive i ≡ true → slice_index ranks i ≡ 0
-  -- each round but the last drops a pair
-  pub few : round + raised alive + bit changed ≤ D.stages * D.conditions + 1
+-- Between two rounds, after so many of them.
+pub record Going (D : Domain) (tasks : List Task) (stages : List Stage) (rounds : ℕ) (changed : Bool) : Type 0 where
+  pub ready : Ready D tasks stages
+  pub judged : Judged D (left_in stages) (rank_in stages) rounds changed
+  -- each round but the last takes a pair out
+  pub few : rounds + count_left stages + bit changed ≤ D.stages * D.conditions + 1
+  pub still : changed ≡ false → (s : ℕ) (d : Stage) → s < D.stages → (slice_index_or stages s d).lost ≡ false

@@ -1,20 +1,16 @@
--- Rows of flags: when two agree, and what a write to one row of many changes.
-use Rattle.std.specs.Prelude.{◌≡◌, ℕ, ◌+◌, ◌<◌, ◌≤◌, Bool, true, ◌&&◌, List}
-use Rattle.plans.specs.Flags.{has}
+-- Rows of flags, a flag for each condition.
+use Rattle.std.specs.Prelude.{◌≡◌, ℕ, ◌<◌, Bool, ◌&&◌, List, map}
+use Rattle.std.specs.List.{zip}
+use Rattle.formula.specs.Truth.{truth}
 
 -- Two rows agree on the numbers below n.
 abbrev pub Agree : ℕ → (ℕ → Bool) → (ℕ → Bool) → Type 0
 Agree n f g = (c : ℕ) → c < n → f c ≡ g c
 
--- No flag changes besides the n that begin at `at`.
-pub record Besides (before after : List Bool) (at n : ℕ) : Type 0 where
-  pub below : (k : ℕ) → k < at → has after k ≡ has before k
-  pub above : (k : ℕ) → at + n ≤ k → has after k ≡ has before k
+-- The flags that both rows have.
+abbrev pub both : List Bool → List Bool → List Bool
+both a b = map (λ p. p.0 && p.1) (zip a b)
 
--- Of the n flags that begin at `at`, those are taken down that `row` lacks; no other flag changes.
-pub record Narrowed (before after : List Bool) (at n : ℕ) (row : ℕ → Bool) : Type 0 where
-  pub here : (c : ℕ) → c < n → has after (at + c) ≡ (has before (at + c) && row c)
-  pub below : (k : ℕ) → k < at → has after k ≡ has before k
-  pub above : (k : ℕ) → at + n ≤ k → has after k ≡ has before k
-  -- no flag is raised
-  pub down : (k : ℕ) → has after k ≡ true → has before k ≡ true
+-- Where a text holds, condition by condition, in a port of that many marks.
+abbrev pub truths : ℕ → List ℕ → List ℕ → List Bool
+truths marks conditions text = map (λ c. truth marks c text) conditions

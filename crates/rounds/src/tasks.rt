@@ -1,80 +1,94 @@
-// Where the texts of a port's requests hold, worked out once.
-ghost use Rattle.std.specs.Prelude.{◌≡◌, true, ◌++◌, IfOk, OnOk};
-ghost use Rattle.formula.specs.Truth.{is_formula, truth};
-ghost use Rattle.port.specs.Model.{model_of, request_model};
-ghost use Rattle.rounds.specs.Tables.{TasksOf, keep_row, leg_of, reach_row, truths};
+// A port's requests as the rounds see them.
+ghost use Rattle.std.specs.Prelude.{◌≡◌, true, false, length, IfOk, OnOk, map as mapped};
+ghost use Rattle.formula.specs.Truth.{is_formula};
+ghost use Rattle.port.specs.Model.{request_model};
+ghost use Rattle.rounds.specs.Rounds.{domain_in};
+ghost use Rattle.rounds.specs.Tasks.{Fresh, IsTask, SameTexts, TasksOf, planned};
 
-use crate::Leg;
-use port::{Port, Request, Text};
+use crate::rows::{both, holding};
+use crate::stages::Stage;
+use costs::MoveCount;
+use index::MoveIndex;
+use port::{Port, Request};
+use search::{Choice, search};
 use std::alloc::{AllocError, Global};
 
-// The requests of a port: their stages, and a row of flags for each text, condition by condition.
+// A request: its stages, and rows of flags by condition.
 #[derive(Drop)]
-pub(crate) struct Tasks {
-    pub(crate) legs: Vec<Leg>,
-    pub(crate) keep: Vec<bool>,
+pub struct Task {
+    pub(crate) from: usize,
+    pub(crate) to: usize,
+    // Where it may be worked, since its keep holds.
+    pub keep: Vec<bool>,
+    // Where its reach holds.
     pub(crate) reach: Vec<bool>,
+    // Where it may end: its reach holds, and the pair with its to-stage is left.
+    pub goal: Vec<bool>,
+    // From where it can be served, with that goal.
+    pub(crate) served: Vec<bool>,
 }
 
-// Whether the text holds on a set of marks.
-fn holds(text: &Text, count: u8, marks: u16) -> bool
-    requires { is_formula count text.now.bytes.items ≡ true }
-    ensures { result ≡ truth count marks text.now.bytes.items }
+// Whether the choice has a plan.
+fn has_plan<K: Copy>(choice: &Choice<K>) -> bool
+    ensures { result ≡ planned choice.now }
 {
-    match formula::evaluate(text.bytes.as_slice(), count, marks) {
-        Ok(value) => value,
-        Err(_) => false,
-    }
+    !matches!(choice, Choice::None)
 }
 
-// One more row: where the text holds.
-fn add_row(port: &Port, text: &Text, flags: &mut Vec<bool>) -> Result<(), AllocError>
-    requires { is_formula port.now.header.marks text.now.bytes.items ≡ true }
-    ensures { OnOk result (flags.new.items ≡ flags.old.items ++ truths port.now.header.marks port.now.conditions.items text.now.bytes.items) }
+// From which conditions there is a plan.
+fn planned<K: Copy>(heap: Global, choices: &[Choice<K>]) -> Result<Vec<bool>, AllocError>
+    ensures { IfOk result (λ v. v.items ≡ mapped planned choices.now) }
 {
-    for marks in port.conditions.as_slice() {
-        flags.push(holds(text, port.header.marks, *marks))?;
-    }
-    Ok(())
+    choices.iter().map(|choice| has_plan(choice)).collect(heap)
 }
 
-// One more row in each table: where the request's two texts hold.
-fn add_rows(
-    port: &Port,
-    request: &Request,
-    keep: &mut Vec<bool>,
-    reach: &mut Vec<bool>,
-) -> Result<(), AllocError>
-    requires keep { is_formula port.now.header.marks request.now.keep.bytes.items ≡ true }
-    requires reach { is_formula port.now.header.marks request.now.reach.bytes.items ≡ true }
-    ensures keep { OnOk result (keep.new.items ≡ keep.old.items ++ keep_row port.now.header.marks port.now.conditions.items (request_model request.now)) }
-    ensures reach { OnOk result (reach.new.items ≡ reach.old.items ++ reach_row port.now.header.marks port.now.conditions.items (request_model request.now)) }
-{
-    add_row(port, &request.keep, keep)?;
-    add_row(port, &request.reach, reach)?;
-    Ok(())
-}
-
-fn leg_of(request: &Request) -> Leg
-    ensures { result ≡ leg_of (request_model request.now) }
-{
-    Leg {
-        from: request.from as usize,
-        to: request.to as usize,
-    }
-}
-
-impl Tasks {
-    pub(crate) fn new(heap: Global, port: &Port) -> Result<Tasks, AllocError>
-        ensures { IfOk result (λ t. TasksOf (model_of port.now) t) }
+impl Task {
+    fn new(heap: Global, port: &Port, request: &Request) -> Result<Task, AllocError>
+        requires keep { is_formula port.now.header.marks request.now.keep.bytes.items ≡ true }
+        requires reach { is_formula port.now.header.marks request.now.reach.bytes.items ≡ true }
+        ensures { IfOk result (λ t. IsTask port.now.header.marks port.now.conditions.items (request_model request.now) t) }
     {
-        let mut legs = Vec::new(heap);
-        let mut keep = Vec::new(heap);
-        let mut reach = Vec::new(heap);
-        for request in port.requests.as_slice() {
-            legs.push(leg_of(request))?;
-            add_rows(port, request, &mut keep, &mut reach)?;
-        }
-        Ok(Tasks { legs, keep, reach })
+        Ok(Task {
+            from: request.from as usize,
+            to: request.to as usize,
+            keep: holding(heap, port, &request.keep)?,
+            reach: holding(heap, port, &request.reach)?,
+            goal: Vec::new(heap),
+            served: Vec::new(heap),
+        })
     }
+
+    // Brings the request's goal, and from where it can be served, up to date with the pairs of its to-stage: it is searched again
+    // where that stage has lost one.
+    pub(crate) fn refresh(
+        &mut self,
+        heap: Global,
+        index: &MoveIndex,
+        end: &Stage,
+    ) -> Result<(), AllocError>
+        requires reach { length self.old.reach.items ≡ (domain_in index.now).conditions }
+        requires alive { length end.now.alive.items ≡ (domain_in index.now).conditions }
+        requires fresh { end.now.lost ≡ false → Fresh (domain_in index.now) end.now.alive.items self.old }
+        ensures same { OnOk result (SameTexts self.old self.new) }
+        ensures fresh { OnOk result (Fresh (domain_in index.now) end.now.alive.items self.new) }
+    {
+        if !end.lost {
+            return Ok(());
+        }
+        self.goal = both(heap, &self.reach, &end.alive)?;
+        let choices = search::<MoveCount>(heap, index, &self.keep, &self.goal)?;
+        self.served = planned(heap, &choices)?;
+        Ok(())
+    }
+}
+
+// A task for each request of the port.
+pub(crate) fn tasks_of(heap: Global, port: &Port) -> Result<Vec<Task>, AllocError>
+    ensures { IfOk result (λ v. TasksOf port.now v.items) }
+{
+    let mut tasks = Vec::new(heap);
+    for request in &port.requests {
+        tasks.push(Task::new(heap, port, request)?)?;
+    }
+    Ok(tasks)
 }
