@@ -1,14 +1,21 @@
 -- Choices, row by row.
-use Rattle.std.proofs.Common.{◌≡◌, ℕ, ◌+◌, ◌*◌, ◌<◌, List, ◌++◌, length, get_or, sym, ap, ◌∙◌, subst, suc-mul, add-one, arith, length-append}
+use Rattle.std.proofs.Common.{◌≡◌, ℕ, ◌+◌, ◌*◌, ◌<◌, List, ◌++◌, length, get_or, vec_items, sym, refl, ap, ◌∙◌, subst, suc-mul, add-one, arith, length-append}
 use native.Mathlib.Decide.{ℕ_discrete}
 use Rattle.std.proofs.lemmas.List.{get_or_append_left, get_or-append-add}
 use Rattle.plans.specs.Simulation.{Domain}
 use Rattle.costs.specs.Costs.{Model}
-use Rattle.search.specs.Answers.{Answer}
+use Rattle.plans.specs.Flags.{has}
+use Rattle.search.specs.Answers.{Answer, Answers}
 use Rattle.search.specs.declared.Choice.{Choice}
 use Rattle.search.specs.declared.Choice.TheVariants.{None}
 use Rattle.solver.specs.Choices.{Chosen, ChosenRow}
-use Rattle.rounds.proofs.Writes.{row_apart}
+use Rattle.plans.proofs.Flags.{row_within}
+use Rattle.rounds.specs.Verdicts.{GoalRows, KeepRows}
+use Rattle.rounds.specs.declared.tasks.Task.{Task}
+
+-- rows before and after a row
+row_apart : (s t n c : ℕ) → s < t → c < n → s * n + c < t * n
+row_apart s t n c l h = omega (arith, row_within s t n (t * n) l refl)
 
 -- the rows of the first i tasks
 abbrev pub ChosenTo : {A : Type 0} → Model → (A → List ℕ) → Domain → List (Choice A) → ℕ → Type 0
@@ -40,6 +47,23 @@ module _ {A : Type 0} (k : Model) (e : A → List ℕ) (D : Domain) where
               same_row j (λ c. get_or choices (j * D.conditions + c) None) (λ c. get_or (choices ++ row) (j * D.conditions + c) None)
               (λ c h. get_or_append_left choices row None (j * D.conditions + c) (omega (arith, row_apart j i D.conditions c (omega arith) h, old.0)))
               (old.1 j (omega arith))
+
+  -- what a search answers for a task
+  pub searched_row : (tasks : List Task) (i : ℕ) (t : Task) (row : List (Choice A)) → KeepRows D tasks → GoalRows D tasks → i < length tasks →
+      t ≡ get_or tasks i t → Answers D.conditions k e D.moves (vec_items t.keep) (vec_items t.goal) row → ChosenRow k e D i (λ c. get_or row c None)
+  searched_row tasks i t row keeps goals l is a = (
+    has (vec_items t.keep),
+    has (vec_items t.goal),
+    λ c h. ap (λ (u : Task). has (vec_items u.keep) c) is ∙ keeps.each i c t at h,
+    λ c h.
+        let same : has (vec_items t.goal) c ≡ has (vec_items (get_or tasks i t).goal) c = ap (λ (u : Task). has (vec_items u.goal) c) is in
+        let iff = goals.each i c t at h in
+        (λ b. iff.0 (sym same ∙ b), λ p. same ∙ iff.1 p),
+    a.each,
+  )
+    where
+      at : i < length D.tasks
+      at = omega (arith, l, keeps.many)
 
   pub chosen_all : (choices : List (Choice A)) (i : ℕ) → i ≡ length D.tasks → ChosenTo k e D choices i → Chosen k e D choices
   chosen_all choices i is c = record {

@@ -34,11 +34,10 @@ fn work_out<C: CostModel>(heap: Global, port: &Port) -> Result<Solution<C::Cost>
 {
     let Verdict {
         index,
-        keep,
-        goals,
+        tasks,
         ranks,
     } = judge(heap, port)?;
-    let choices = choose_all::<C>(heap, &index, port.requests.len(), &keep, &goals)?;
+    let choices = choose_all::<C>(heap, &index, &tasks)?;
     Ok(Solution { choices, ranks })
 }
 
