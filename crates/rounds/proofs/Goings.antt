@@ -1,5 +1,5 @@
 -- From round to round.
-use Rattle.std.proofs.Common.{◌≡◌, ℕ, zero, suc, ◌+◌, ◌*◌, ◌<◌, ◌≤◌, Bool, true, false, cond, not, ◌&&◌, List, [], ◌∷◌, length, get_or, replicate, vec_items, sym, refl, ap, ◌∙◌, subst, ap₂, inl, inr, ◌⊎◌, true≢false, suc-mul, arith}
+use Rattle.std.proofs.Common.{◌≡◌, ℕ, zero, suc, ◌+◌, ◌*◌, ◌<◌, ◌≤◌, Bool, true, false, cond, not, ◌&&◌, List, [], ◌∷◌, length, get_or, replicate, vec_items, sym, refl, ap, ◌∙◌, subst, ap₂, inl, inr, ◌⊎◌, true≢false, suc-mul, add-one, arith}
 use mathlib.Core.Bool.{false≢true}
 use native.Mathlib.Decide.{dec_lt}
 use Rattle.std.proofs.lemmas.List.{length-replicate, get_or-replicate}
@@ -12,7 +12,7 @@ use Rattle.plans.proofs.Flags.{bit_true, raised_most}
 use Rattle.plans.proofs.Ranks.{kept_rank}
 use Rattle.plans.proofs.Rounds.{served_rows}
 use Rattle.plans.proofs.Shrink.{dropped_rank, shrinks, stable_kept}
-use Rattle.rounds.specs.Rounds.{FreshFrom, Going, Judged, Ready, SameLeft, Turned, Wide, count_left, serving}
+use Rattle.rounds.specs.Rounds.{FreshFrom, Going, Judged, Ran, Ready, Turned, count_left, serving}
 use Rattle.rounds.specs.Stages.{IsNew, SettledAll, SettledBy, StagesNew, left_in, next_in, rank_in}
 use Rattle.rounds.specs.Tasks.{Fresh, Told}
 use Rattle.rounds.specs.declared.stages.Stage.{Stage}
@@ -118,11 +118,11 @@ past_off [] c l = refl
 past_off (f ∷ fs) zero l = absurd (omega arith)
 past_off (f ∷ fs) (suc c) l = past_off fs c (omega arith)
 
-module _ (D : Domain) (wf : WellFormed D) (tasks tasks' : List Task) (before turned after : List Stage) (k : ℕ) (changed : Bool) (g : Going D tasks before k true) (t : Turned D before tasks' turned (length D.tasks)) (s : SettledAll (suc k) turned after changed) where
+module _ (D : Domain) (wf : WellFormed D) (tasks tasks' : List Task) (before turned after : List Stage) (k : ℕ) (changed : Bool) (g : Going D tasks before k true) (t : Turned D before tasks' turned (length D.tasks)) (s : SettledAll (k + 1) turned after changed) where
   high : length after ≡ D.stages
   high = s.many ∙ t.high
 
-  settled : (x : ℕ) (d : Stage) → x < D.stages → SettledBy (suc k) (get_or turned x d) (get_or after x d)
+  settled : (x : ℕ) (d : Stage) → x < D.stages → SettledBy (k + 1) (get_or turned x d) (get_or after x d)
   settled x d l = s.each x d (omega (arith, l, t.high))
 
   -- what is left at a stage is what the round left of it
@@ -142,7 +142,7 @@ module _ (D : Domain) (wf : WellFormed D) (tasks tasks' : List Task) (before tur
   down : (x c : ℕ) → InRange D x c → left_in after x c ≡ true → left_in before x c ≡ true
   down x c r up = and_left (left_in before x c) (all_served D (serving D (left_in before)) (length D.tasks) x c) (sym (round x c r) ∙ up)
 
-  noted : (x c : ℕ) → InRange D x c → rank_in after x c ≡ cond (left_in before x c && not (left_in after x c)) (suc k) (rank_in before x c)
+  noted : (x c : ℕ) → InRange D x c → rank_in after x c ≡ cond (left_in before x c && not (left_in after x c)) (k + 1) (rank_in before x c)
   noted x c r =
       let d : Stage = an_element after x (omega (arith, r.0, high)) in
       let la : x < length after = omega (arith, r.0, high) in
@@ -151,11 +151,11 @@ module _ (D : Domain) (wf : WellFormed D) (tasks tasks' : List Task) (before tur
       let e = settled x d r.0 in
       let long : c < length (vec_items (get_or turned x d).ranks) = omega (arith, (t.wide x d r.0).ranks, r.1) in
       rank_at_stage after x c d la ∙ e.ranks c long
-      ∙ ap (λ (b : Bool). cond (b && not (has (vec_items (get_or turned x d).next) c)) (suc k) (get_or (vec_items (get_or turned x d).ranks) c 0))
+      ∙ ap (λ (b : Bool). cond (b && not (has (vec_items (get_or turned x d).next) c)) (k + 1) (get_or (vec_items (get_or turned x d).ranks) c 0))
       (sym (left_at turned x c d lt) ∙ was x c r.0)
-      ∙ ap (λ (b : Bool). cond (left_in before x c && not b) (suc k) (get_or (vec_items (get_or turned x d).ranks) c 0))
+      ∙ ap (λ (b : Bool). cond (left_in before x c && not b) (k + 1) (get_or (vec_items (get_or turned x d).ranks) c 0))
       (sym (next_at turned x c d lt) ∙ sym (now x c r.0))
-      ∙ ap (λ (m : ℕ). cond (left_in before x c && not (left_in after x c)) (suc k) m)
+      ∙ ap (λ (m : ℕ). cond (left_in before x c && not (left_in after x c)) (k + 1) m)
       (ap (λ v. get_or (vec_items v) c 0) (t.same x d r.0).ranks ∙ sym (rank_at_stage before x c d lb))
 
   -- the stages that lost nothing are as they were
@@ -214,7 +214,7 @@ module _ (D : Domain) (wf : WellFormed D) (tasks tasks' : List Task) (before tur
       go (inl p) = absurd ((settled x d l).lost lost (sym (settled x d l).alive ∙ p ∙ ap vec_items (sym (t.same x d l).alive)))
       go (inr h) = h
 
-  pub going_fewer : count_left after + bit changed ≤ count_left before
+  going_fewer : count_left after + bit changed ≤ count_left before
   going_fewer = go changed refl
     where
       even : length after ≡ length before
@@ -227,18 +227,22 @@ module _ (D : Domain) (wf : WellFormed D) (tasks tasks' : List Task) (before tur
           let at : some.0 < D.stages = omega (arith, some.1, t.high) in
           omega (arith, count_less before after even no_more some.0 (omega (arith, at, g.ready.high)) (λ d. less some.0 d at (some.2 d)))
 
-  pub going_turn : Going D tasks' after (suc k) changed
-  going_turn = record {
+  going : Going D tasks' after (k + 1) changed
+  going = record {
     ready = ready;
-    judged = judged_turn D wf (left_in before) (left_in after) (rank_in before) (rank_in after) k true changed g.judged
-        (round_left D wf k (left_in before) (left_in after) g.judged.alike round) down noted
+    judged = subst (λ (n : ℕ). Judged D (left_in after) (rank_in after) n changed) (sym (add-one k)) (judged_turn D wf (left_in before) (left_in after) (rank_in before) (rank_in after) k true changed g.judged
+        (round_left D wf k (left_in before) (left_in after) g.judged.alike round) down
+        (λ x c r. noted x c r ∙ ap (λ (n : ℕ). cond (left_in before x c && not (left_in after x c)) n (rank_in before x c)) (add-one k))
         (λ e x c r.
         let d : Stage = an_element after x (omega (arith, r.0, high)) in
         left_at after x c d (omega (arith, r.0, high)) ∙ ap (λ fs. has fs c) (quiet x d r.0 (s.still e x d (omega (arith, r.0, t.high))))
-        ∙ sym (left_at before x c d (omega (arith, r.0, g.ready.high))));
+        ∙ sym (left_at before x c d (omega (arith, r.0, g.ready.high)))));
     few = omega (arith, going_fewer, g.few, bit_true true refl);
     still = λ e x d l. s.still e x d (omega (arith, l, t.high));
   }
+
+  pub ran : Ran D before tasks' after (k + 1) changed
+  ran = record { going = going; fewer = going_fewer }
 
 -- ── before the first round ──
 

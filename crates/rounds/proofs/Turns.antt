@@ -3,8 +3,11 @@ use Rattle.std.proofs.Common.{◌≡◌, ℕ, suc, ◌+◌, ◌<◌, ◌≤◌, 
 use native.Mathlib.Decide.{ℕ_discrete}
 use Rattle.std.proofs.lemmas.List.{get_or-map, get_or_default}
 use Rattle.plans.specs.Simulation.{Domain, WellFormed, InRange}
+use Rattle.plans.proofs.Formed.{port_formed}
+use Rattle.index.specs.Indexed.{port_of}
+use Rattle.index.specs.declared.MoveIndex.{MoveIndex}
 use Rattle.plans.specs.Flags.{all_served, has, task_at}
-use Rattle.rounds.specs.Rounds.{FreshFrom, Ready, SameLeft, Turned, Wide, serving}
+use Rattle.rounds.specs.Rounds.{domain_in, FreshFrom, Ready, SameLeft, Turned, Wide, serving}
 use Rattle.rounds.specs.Stages.{NarrowedBy, left_in, next_in, rank_in}
 use Rattle.rounds.specs.Tasks.{Fresh, SameTexts, Tells, Told}
 use Rattle.rounds.specs.declared.stages.Stage.{Stage}
@@ -66,7 +69,19 @@ turned_start D tasks stages r = record {
       next_at stages s c d l ∙ ap (λ fs. has fs c) (r.level s d h.0) ∙ sym (left_at stages s c d l) ∙ sym (and_true (left_in stages s c));
 }
 
-module _ (D : Domain) (wf : WellFormed D) (before stages : List Stage) (tasks : List Task) (i : ℕ) (l : i < length D.tasks) (high : length before ≡ D.stages) (h : Turned D before tasks stages i) (a : Task) where
+module _ (index : MoveIndex) {before stages : List Stage} {first tasks : List Task} {i : ℕ} (ready : Ready (domain_in index) first before) (h : Turned (domain_in index) before tasks stages i) (li : i < length tasks) (a : Task) where
+  abbrev D : Domain
+  D = domain_in index
+
+  wf : WellFormed D
+  wf = port_formed (port_of index)
+
+  high : length before ≡ D.stages
+  high = ready.high
+
+  l : i < length D.tasks
+  l = omega (arith, li, h.told.many)
+
   -- the task at hand
   abbrev t : Task
   t = get_or tasks i a
@@ -74,11 +89,18 @@ module _ (D : Domain) (wf : WellFormed D) (before stages : List Stage) (tasks : 
   turn_tells : Tells D.conditions (task_at D i) t
   turn_tells = h.told.each i a l
 
-  pub turn_to : t.to < D.stages
+  turn_to : t.to < D.stages
   turn_to = subst (λ (s : ℕ). s < D.stages) (sym turn_tells.to) (task_staged D wf i l).1
 
-  pub turn_from : t.from < D.stages
+  turn_from : t.from < D.stages
   turn_from = subst (λ (s : ℕ). s < D.stages) (sym turn_tells.from) (task_staged D wf i l).0
+
+  -- its stages are among those there are, of which there are few
+  pub turn_ends : (t.to < length stages) × (length stages ≤ 16)
+  turn_ends = (subst (λ (n : ℕ). t.to < n) (sym h.high) turn_to, omega (arith, h.high, (port_of index).stages_few))
+
+  pub turn_leaves : t.from < length stages
+  turn_leaves = subst (λ (n : ℕ). t.from < n) (sym h.high) turn_from
 
   module _ (b : Stage) where
     -- its to-stage
@@ -110,9 +132,6 @@ module _ (D : Domain) (wf : WellFormed D) (before stages : List Stage) (tasks : 
       here : u.from < length stages
       here = subst (λ (k : ℕ). u.from < k) (sym h.high) low
 
-      listed : i < length tasks
-      listed = omega (arith, l, h.told.many)
-
       -- the pairs of its to-stage that are left
       ends : (c : ℕ) → has (vec_items e.alive) c ≡ left_in before (task_at D i).to c
       ends c =
@@ -132,7 +151,7 @@ module _ (D : Domain) (wf : WellFormed D) (before stages : List Stage) (tasks : 
       turned_more = record {
         told = record {
           many = length-set tasks i u ∙ h.told.many;
-          each = λ j d lj. each_set (λ (k : ℕ) (y : Task). k < length D.tasks → Tells D.conditions (task_at D k) y) tasks i u listed (λ lk. told)
+          each = λ j d lj. each_set (λ (k : ℕ) (y : Task). k < length D.tasks → Tells D.conditions (task_at D k) y) tasks i u li (λ lk. told)
               (λ k y ne lk. h.told.each k y lk) j d lj;
         };
         high = length-set stages u.from s' ∙ h.high;
@@ -156,7 +175,7 @@ module _ (D : Domain) (wf : WellFormed D) (before stages : List Stage) (tasks : 
 
           fresh : FreshFrom D (set tasks i u) before (i + 1)
           fresh j d b' lj le =
-              each_set (λ (k : ℕ) (y : Task). k ≡ j → Fresh D (vec_items (get_or before (task_at D j).to b').alive) y) tasks i u listed
+              each_set (λ (k : ℕ) (y : Task). k ≡ j → Fresh D (vec_items (get_or before (task_at D j).to b').alive) y) tasks i u li
               (λ k. subst (λ (fs : List Bool). Fresh D fs u)
               (ap vec_items same.alive ∙ ap vec_items (ap (λ (y : Stage). y.alive) (get_or_default before (task_at D i).to b b' (omega (arith, high, (task_staged D wf i l).1)))
               ∙ ap (λ (m : ℕ). (get_or before (task_at D m).to b').alive) k)) f)

@@ -77,3 +77,8 @@ pub record Going (D : Domain) (tasks : List Task) (stages : List Stage) (rounds 
   -- each round but the last takes a pair out
   pub few : rounds + count_left stages + bit changed ≤ D.stages * D.conditions + 1
   pub still : changed ≡ false → (s : ℕ) (d : Stage) → s < D.stages → (slice_index_or stages s d).lost ≡ false
+
+-- One round more has been run: no more pairs are left than before, and fewer where it took one out.
+pub record Ran (D : Domain) (before : List Stage) (tasks : List Task) (stages : List Stage) (rounds : ℕ) (changed : Bool) : Type 0 where
+  pub going : Going D tasks stages rounds changed
+  pub fewer : count_left stages + bit changed ≤ count_left before

@@ -1,12 +1,16 @@
-// Which pairs of stage and condition are kept, by synchronous rounds.
-ghost use Rattle.std.specs.Prelude.{◌≡◌, IfOk};
+// Which pairs of stage and condition are kept, by synchronous rounds: each takes out the pairs that some request of their stage cannot
+// be served from, with the pairs that the round before left to end in.
+ghost use Rattle.std.specs.Prelude.{◌≡◌, ℕ, ◌<◌, true, false, length, IfOk, OnOk, slice_index_or};
+ghost use Rattle.std.specs.List.{flat_map};
 ghost use Rattle.plans.specs.Domains.{domain_of};
 ghost use Rattle.port.specs.Model.{model_of};
 ghost use Rattle.index.specs.Indexed.{port_of};
+ghost use Rattle.rounds.specs.Stages.{Level, SettledAll, rank_row};
+ghost use Rattle.rounds.specs.Rounds.{Going, Ran, Ready, Turned, domain_in};
 ghost use Rattle.rounds.specs.Verdicts.{Judges};
 
-use crate::rounds::{Rounds, ranks_of};
-use crate::tasks::Task;
+use crate::stages::{Stage, stages_of};
+use crate::tasks::{Task, tasks_of};
 use index::MoveIndex;
 use port::Port;
 use std::alloc::{AllocError, Global};
@@ -20,13 +24,101 @@ pub struct Verdict<'a> {
     pub ranks: Vec<u16>,
 }
 
+// The turns of the requests in a round. They read the pairs that are left and write what the round leaves of them: what is taken out
+// there counts from the next round on.
+fn take_turns(
+    heap: Global,
+    index: &MoveIndex,
+    tasks: &mut [Task],
+    stages: &mut [Stage],
+) -> Result<(), AllocError>
+    requires { Ready (domain_in index.now) tasks.old stages.old }
+    ensures { OnOk result (Turned (domain_in index.now) stages.old tasks.new stages.new (length (domain_in index.now).tasks)) }
+{
+    for task in tasks.iter_mut() {
+        task.refresh(heap, index, &stages[task.to])?;
+        stages[task.from].narrow(heap, &task.served)?;
+    }
+    Ok(())
+}
+
+// Ends a round of this number; whether it took out a pair.
+fn settle(stages: &mut [Stage], round: u16) -> bool
+    requires { (s : ℕ) (d : Stage) → s < length stages.old → Level (slice_index_or stages.old s d) }
+    ensures { SettledAll round stages.old stages.new result }
+{
+    for stage in stages.iter_mut() {
+        stage.settle(round);
+    }
+    stages.iter().any(|stage| stage.lost)
+}
+
+// The ranks of the pairs, by stage and then by condition.
+fn ranks_of(heap: Global, stages: &[Stage]) -> Result<Vec<u16>, AllocError>
+    ensures { IfOk result (λ v. v.items ≡ flat_map rank_row stages.now) }
+{
+    let mut ranks = Vec::new(heap);
+    for stage in stages {
+        ranks.extend_from_slice(&stage.ranks)?;
+    }
+    Ok(ranks)
+}
+
+// The rounds over a port's pairs, so many of them.
+#[derive(Drop)]
+struct Rounds<'a> {
+    index: MoveIndex<'a>,
+    tasks: Vec<Task>,
+    stages: Vec<Stage>,
+    count: u16,
+}
+
+impl<'a> Rounds<'a> {
+    // Before the first round, with every pair left.
+    fn new(heap: Global, port: &'a Port) -> Result<Rounds<'a>, AllocError>
+        ensures index { IfOk result (λ r. port_of r.index ≡ port.now) }
+        ensures going { IfOk result (λ r. Going (domain_in r.index) r.tasks.items r.stages.items r.count true) }
+    {
+        let index = MoveIndex::new(heap, port)?;
+        let tasks = tasks_of(heap, port)?;
+        let stages = stages_of(heap, index.stages(), index.conditions())?;
+        Ok(Rounds {
+            index,
+            tasks,
+            stages,
+            count: 0,
+        })
+    }
+
+    // One round more; whether it took out a pair.
+    fn run(&mut self, heap: Global) -> Result<bool, AllocError>
+        requires { Going (domain_in self.old.index) self.old.tasks.items self.old.stages.items self.old.count true }
+        ensures index { OnOk result (self.new.index ≡ self.old.index) }
+        ensures ran { IfOk result (λ changed. Ran (domain_in self.old.index) self.old.stages.items self.new.tasks.items self.new.stages.items self.new.count changed) }
+    {
+        take_turns(heap, &self.index, &mut self.tasks, &mut self.stages)?;
+        self.count += 1;
+        Ok(settle(&mut self.stages, self.count))
+    }
+
+    // Rounds, until one takes out no pair.
+    fn finish(&mut self, heap: Global) -> Result<(), AllocError>
+        requires { Going (domain_in self.old.index) self.old.tasks.items self.old.stages.items self.old.count true }
+        ensures index { OnOk result (self.new.index ≡ self.old.index) }
+        ensures going { OnOk result (Going (domain_in self.old.index) self.new.tasks.items self.new.stages.items self.new.count false) }
+    {
+        while self.run(heap)? {}
+        Ok(())
+    }
+}
+
 // Which pairs of a port are kept, told by the rank of each, and where each request may be worked and may end.
 pub fn judge<'a>(heap: Global, port: &'a Port) -> Result<Verdict<'a>, AllocError>
     ensures index { IfOk result (λ v. port_of v.index ≡ port.now) }
     ensures told { IfOk result (λ v. Judges (domain_of (model_of port.now)) v.tasks.items v.ranks.items) }
 {
     let mut rounds = Rounds::new(heap, port)?;
-    while rounds.run(heap)? {}
+    rounds.finish(heap)?;
     let Rounds {
         index,
         tasks,

@@ -2,7 +2,6 @@
 #![tactic(auto)]
 
 mod judging;
-mod rounds;
 mod rows;
 mod stages;
 mod tasks;

@@ -28,18 +28,14 @@ pub struct Task {
     pub(crate) served: Vec<bool>,
 }
 
-// Whether the choice has a plan.
-fn has_plan<K: Copy>(choice: &Choice<K>) -> bool
-    ensures { result ≡ planned choice.now }
-{
-    !matches!(choice, Choice::None)
-}
-
 // From which conditions there is a plan.
 fn planned<K: Copy>(heap: Global, choices: &[Choice<K>]) -> Result<Vec<bool>, AllocError>
     ensures { IfOk result (λ v. v.items ≡ mapped planned choices.now) }
 {
-    choices.iter().map(|choice| has_plan(choice)).collect(heap)
+    choices
+        .iter()
+        .map(|choice| !matches!(choice, Choice::None))
+        .collect(heap)
 }
 
 impl Task {

@@ -1,4 +1,4 @@
-use Rattle.std.proofs.Common.{◌≡◌, vec_items, ap, ◌∙◌, subst}
+use Rattle.std.proofs.Common.{◌≡◌, vec_items, ap, ◌∙◌, refl, subst}
 use Rattle.std.specs.List.{flat_map}
 use Rattle.plans.specs.Domains.{domain_of}
 use Rattle.plans.proofs.Formed.{port_formed}
@@ -13,8 +13,7 @@ use Rattle.rounds.proofs.judging.judge.Goals as goal
 
 pub returns-clause-told : goal.returns-clause-told
 returns-clause-told c =
-    subst (λ (p : Port). Judges (domain_of (model_of p)) (vec_items c.run.new.self.tasks) (vec_items c.in_ok-ranks.ranks))
-    (ap port_of c.in_ok-run.ensures.index ∙ c.loop-rounds.invariant.index)
-    (going_done (domain_in c.run.new.self.index) (port_formed (port_of c.run.new.self.index)) (vec_items c.run.new.self.tasks) (vec_items c.run.new.self.stages)
-    c.run.new.self.count c.in_ok-run.field-0 c.in_ok-run.ensures.going c.if-branch.false (vec_items c.in_ok-ranks.ranks)
-    (c.in_ok-ranks.ensures ∙ ap (flat_map rank_row) c.deref.ensures.value))
+    let p : Port = port_of c.in_ok-rounds.rounds.index in
+    subst (λ (q : Port). Judges (domain_of (model_of q)) (vec_items c.finish.new.self.tasks) (vec_items c.in_ok-ranks.ranks)) c.in_ok-rounds.ensures.index
+    (going_done (domain_of (model_of p)) (port_formed p) (vec_items c.finish.new.self.tasks) (vec_items c.finish.new.self.stages) c.finish.new.self.count
+    c.in_ok-finish.ensures.going (vec_items c.in_ok-ranks.ranks) (c.in_ok-ranks.ensures ∙ ap (flat_map rank_row) c.deref.ensures.value))

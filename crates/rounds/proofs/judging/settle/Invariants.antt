@@ -1,7 +1,7 @@
 use Rattle.std.proofs.Common.{◌≡◌, ℕ, ◌<◌, ◌≤◌, get_or}
 use Rattle.rounds.specs.Stages.{SettledBy}
 use Rattle.rounds.specs.declared.stages.Stage.{Stage}
-use Rattle.rounds.proofs.rounds.settle.Given as goal
+use Rattle.rounds.proofs.judging.settle.Given as goal
 
 abbrev pub invariant-loop-stage : goal.invariant-loop-stage
 invariant-loop-stage l = record {

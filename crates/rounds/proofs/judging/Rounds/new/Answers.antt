@@ -7,7 +7,7 @@ use Rattle.index.specs.Indexed.{port_of}
 use Rattle.rounds.specs.Tasks.{Told}
 use Rattle.rounds.proofs.Freshness.{tasks_told}
 use Rattle.rounds.proofs.Goings.{going_start}
-use Rattle.rounds.proofs.rounds.Rounds.new.Goals as goal
+use Rattle.rounds.proofs.judging.Rounds.new.Goals as goal
 
 pub returns-clause-going : goal.returns-clause-going
 returns-clause-going c =
