@@ -6,7 +6,7 @@ use Rattle.plans.specs.Simulation.{Domain, WellFormed, InRange, Kept, Rank}
 use Rattle.plans.specs.Flags.{has, rank_at, task_at}
 use Rattle.plans.proofs.Ranks.{kept_rank, left_serves}
 use Rattle.plans.proofs.Serve.{kept_row}
-use Rattle.rounds.specs.Rounds.{Going, Judged}
+use Rattle.rounds.specs.Rounds.{Going}
 use Rattle.rounds.specs.Stages.{left_in, rank_in, rank_row}
 use Rattle.rounds.specs.Tasks.{Fresh}
 use Rattle.rounds.specs.Verdicts.{Judges}

@@ -1,7 +1,6 @@
 -- The tasks of a port tell those of its domain, and rows that are up to date say from where each can be served.
-use Rattle.std.proofs.Common.{◌≡◌, ℕ, ◌<◌, Bool, true, false, ◌&&◌, ◌↔◌, List, [], map, length, get_or, vec_items, sym, refl, ap, ◌∙◌, subst, ap₂, arith}
+use Rattle.std.proofs.Common.{◌≡◌, ℕ, ◌<◌, Bool, true, false, ◌&&◌, ◌↔◌, List, map, length, get_or, vec_items, sym, refl, ap, ◌∙◌, subst, ap₂, arith}
 use mathlib.Core.Bool.{false≢true}
-use Rattle.std.specs.List.{AllZip}
 use Rattle.std.proofs.lemmas.List.{get_or-map, length-map}
 use Rattle.std.proofs.lemmas.Slice.Zip.{AllZip-long}
 use Rattle.formula.specs.Truth.{truth}
@@ -12,7 +11,7 @@ use Rattle.port.specs.declared.held.Port.{Port}
 use Rattle.plans.specs.Domains.{domain_of, task_of}
 use Rattle.plans.specs.Plans.{stop, work}
 use Rattle.plans.specs.Simulation.{Domain, Task as Asked, WellFormed}
-use Rattle.plans.specs.Reach.{Attainable, aim, reached}
+use Rattle.plans.specs.Reach.{Attainable, aim}
 use Rattle.plans.specs.Flags.{has, task_at, no_task}
 use Rattle.plans.proofs.Attain.{stop_attains, attainable_wider}
 use Rattle.plans.proofs.Flags.{reached_by}
@@ -22,7 +21,7 @@ use Rattle.costs.specs.Costs.{Model as Costing}
 use Rattle.search.specs.Answers.{Answer, Answers}
 use Rattle.search.specs.declared.Choice.{Choice}
 use Rattle.search.specs.declared.Choice.TheVariants.{None, There, Work}
-use Rattle.rounds.specs.Rows.{both, truths}
+use Rattle.rounds.specs.Rows.{both}
 use Rattle.rounds.specs.Rounds.{serving}
 use Rattle.rounds.specs.Tasks.{Fresh, IsTask, SameTexts, TasksOf, Tells, Told, planned}
 use Rattle.rounds.specs.declared.tasks.Task.{Task}

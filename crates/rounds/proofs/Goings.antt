@@ -1,19 +1,18 @@
 -- From round to round.
-use Rattle.std.proofs.Common.{◌≡◌, ℕ, zero, suc, ◌+◌, ◌*◌, ◌<◌, ◌≤◌, Bool, true, false, cond, not, ◌&&◌, List, [], ◌∷◌, length, get_or, replicate, vec_items, sym, refl, ap, ◌∙◌, subst, ap₂, inl, inr, ◌⊎◌, true≢false, suc-mul, add-one, arith}
+use Rattle.std.proofs.Common.{◌≡◌, ℕ, zero, suc, ◌+◌, ◌*◌, ◌<◌, ◌≤◌, Bool, true, false, cond, not, ◌&&◌, List, [], ◌∷◌, length, get_or, vec_items, sym, refl, ap, ◌∙◌, subst, ap₂, inl, inr, ◌⊎◌, true≢false, suc-mul, add-one, arith}
 use mathlib.Core.Bool.{false≢true}
 use native.Mathlib.Decide.{dec_lt}
 use Rattle.std.proofs.lemmas.List.{length-replicate, get_or-replicate}
-use Rattle.plans.specs.Simulation.{Domain, WellFormed, InRange, Kept, Rank}
+use Rattle.plans.specs.Simulation.{Domain, WellFormed, InRange, Rank}
 use Rattle.plans.specs.Iterate.{Iterates, Stable}
-use Rattle.plans.specs.Reach.{left, serves}
+use Rattle.plans.specs.Reach.{left}
 use Rattle.plans.specs.Flags.{all_served, bit, has, raised, task_at}
 use Rattle.plans.proofs.Decide.{left_iterates, serves_same}
 use Rattle.plans.proofs.Flags.{bit_true, raised_most}
-use Rattle.plans.proofs.Ranks.{kept_rank}
 use Rattle.plans.proofs.Rounds.{served_rows}
 use Rattle.plans.proofs.Shrink.{dropped_rank, shrinks, stable_kept}
 use Rattle.rounds.specs.Rounds.{FreshFrom, Going, Judged, Ran, Ready, Turned, count_left, serving}
-use Rattle.rounds.specs.Stages.{IsNew, SettledAll, SettledBy, StagesNew, left_in, next_in, rank_in}
+use Rattle.rounds.specs.Stages.{SettledAll, SettledBy, StagesNew, left_in, next_in, rank_in}
 use Rattle.rounds.specs.Tasks.{Fresh, Told}
 use Rattle.rounds.specs.declared.stages.Stage.{Stage}
 use Rattle.rounds.specs.declared.tasks.Task.{Task}

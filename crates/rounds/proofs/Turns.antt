@@ -1,5 +1,5 @@
 -- The turns of the tasks in a round.
-use Rattle.std.proofs.Common.{◌≡◌, ℕ, suc, ◌+◌, ◌<◌, ◌≤◌, Bool, true, false, not, ◌&&◌, ◌||◌, List, [], map, length, get_or, set, vec_items, sym, refl, ap, ◌∙◌, subst, add-one, arith, length-set, get_or-set_other, get_or-set_same, eq-eqb, ne_eqb}
+use Rattle.std.proofs.Common.{◌≡◌, ℕ, suc, ◌+◌, ◌<◌, ◌≤◌, Bool, true, false, not, ◌&&◌, ◌||◌, List, [], length, get_or, set, vec_items, sym, refl, ap, ◌∙◌, subst, add-one, arith, length-set, get_or-set_other, get_or-set_same, eq-eqb, ne_eqb}
 use native.Mathlib.Decide.{ℕ_discrete}
 use Rattle.std.proofs.lemmas.List.{get_or-map, get_or_default}
 use Rattle.plans.specs.Simulation.{Domain, WellFormed, InRange}
@@ -9,7 +9,7 @@ use Rattle.index.specs.declared.MoveIndex.{MoveIndex}
 use Rattle.plans.specs.Flags.{all_served, has, task_at}
 use Rattle.rounds.specs.Rounds.{domain_in, FreshFrom, Ready, SameLeft, Turned, Wide, serving}
 use Rattle.rounds.specs.Stages.{NarrowedBy, left_in, next_in, rank_in}
-use Rattle.rounds.specs.Tasks.{Fresh, SameTexts, Tells, Told}
+use Rattle.rounds.specs.Tasks.{Fresh, SameTexts, Tells}
 use Rattle.rounds.specs.declared.stages.Stage.{Stage}
 use Rattle.rounds.specs.declared.tasks.Task.{Task}
 use Rattle.rounds.proofs.Lists.{an_element, both_has, both_long, each_set}
@@ -191,7 +191,7 @@ module _ (index : MoveIndex) {before stages : List Stage} {first tasks : List Ta
               (next_at (set stages u.from s') u.from c s' (omega (arith, here, length-set stages u.from s'))
               ∙ ap (λ (y : Stage). has (vec_items y.next) c) (get_or-set_same stages u.from s' s' here)
               ∙ ap (λ fs. has fs c) n.next ∙ both_has (vec_items s.next) (vec_items u.served) c
-                      ∙ ap (λ (b : Bool). b && has (vec_items u.served) c) (sym (next_at stages u.from c x here))
+              ∙ ap (λ (b : Bool). b && has (vec_items u.served) c) (sym (next_at stages u.from c x here))
               ∙ ap (λ (b : Bool). next_in stages u.from c && b) (fresh_serving D wf (left_in before) i (vec_items e.alive) u told f ends c lc))
 
           others : (k c : ℕ) → k < D.stages → (k ≡ (task_at D i).from → ⊥) → next_in (set stages u.from s') k c ≡ next_in stages k c

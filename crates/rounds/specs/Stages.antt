@@ -17,7 +17,7 @@ pub record StagesNew (count width : ℕ) (stages : List Stage) : Type 0 where
   pub each : (s : ℕ) (d : Stage) → s < count → IsNew width (slice_index_or stages s d)
 
 -- The rows are of one length.
-pub record Level (s : Stage) : Type 0 where
+pub record Even (s : Stage) : Type 0 where
   pub next : vec_len s.next ≡ vec_len s.alive
   pub ranks : vec_len s.ranks ≡ vec_len s.alive
 

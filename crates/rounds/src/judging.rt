@@ -5,7 +5,7 @@ ghost use Rattle.std.specs.List.{flat_map};
 ghost use Rattle.plans.specs.Domains.{domain_of};
 ghost use Rattle.port.specs.Model.{model_of};
 ghost use Rattle.index.specs.Indexed.{port_of};
-ghost use Rattle.rounds.specs.Stages.{Level, SettledAll, rank_row};
+ghost use Rattle.rounds.specs.Stages.{Even, SettledAll, rank_row};
 ghost use Rattle.rounds.specs.Rounds.{Going, Ran, Ready, Turned, domain_in};
 ghost use Rattle.rounds.specs.Verdicts.{Judges};
 
@@ -44,7 +44,7 @@ fn take_turns(
 
 // Ends a round of this number; whether it took out a pair.
 fn settle(stages: &mut [Stage], round: u16) -> bool
-    requires { (s : ℕ) (d : Stage) → s < length stages.old → Level (slice_index_or stages.old s d) }
+    requires { (s : ℕ) (d : Stage) → s < length stages.old → Even (slice_index_or stages.old s d) }
     ensures { SettledAll round stages.old stages.new result }
 {
     for stage in stages.iter_mut() {

@@ -1,7 +1,7 @@
 // A port's stages as the rounds see them.
 ghost use Rattle.std.specs.Prelude.{◌≡◌, ℕ, ◌<◌, length, IfOk, OnOk, cond, not, ◌&&◌, vec_len, slice_index};
 ghost use Rattle.plans.specs.Flags.{has};
-ghost use Rattle.rounds.specs.Stages.{IsNew, Level, NarrowedBy, SettledBy, StagesNew};
+ghost use Rattle.rounds.specs.Stages.{IsNew, Even, NarrowedBy, SettledBy, StagesNew};
 
 use crate::rows::both;
 use std::alloc::{AllocError, Global};
@@ -55,7 +55,7 @@ impl Stage {
 
     // Ends a round of this number.
     pub(crate) fn settle(&mut self, round: u16)
-        requires { Level self.old }
+        requires { Even self.old }
         ensures { SettledBy round self.old self.new }
     {
         self.lost = self.alive != self.next;

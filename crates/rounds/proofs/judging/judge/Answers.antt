@@ -1,11 +1,10 @@
-use Rattle.std.proofs.Common.{◌≡◌, vec_items, ap, ◌∙◌, refl, subst}
+use Rattle.std.proofs.Common.{vec_items, ap, ◌∙◌, subst}
 use Rattle.std.specs.List.{flat_map}
 use Rattle.plans.specs.Domains.{domain_of}
 use Rattle.plans.proofs.Formed.{port_formed}
 use Rattle.port.specs.Model.{model_of}
 use Rattle.port.specs.declared.held.Port.{Port}
 use Rattle.index.specs.Indexed.{port_of}
-use Rattle.rounds.specs.Rounds.{domain_in}
 use Rattle.rounds.specs.Stages.{rank_row}
 use Rattle.rounds.specs.Verdicts.{Judges}
 use Rattle.rounds.proofs.Ends.{going_done}

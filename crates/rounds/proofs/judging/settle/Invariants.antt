@@ -6,5 +6,5 @@ use Rattle.rounds.proofs.judging.settle.Given as goal
 abbrev pub invariant-loop-stage : goal.invariant-loop-stage
 invariant-loop-stage l = record {
   ended : (s : ℕ) (d : Stage) → s < l.stage-index → SettledBy l.round (get_or l.initial.stages s d) (get_or l.stages s d);
-  rest : (s : ℕ) (d : Stage) → l.stage-index ≤ s → get_or l.stages s d ≡ get_or l.initial.stages s d
+  rest : (s : ℕ) (d : Stage) → l.stage-index ≤ s → get_or l.stages s d ≡ get_or l.initial.stages s d;
 }

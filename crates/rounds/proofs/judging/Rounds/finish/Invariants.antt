@@ -5,7 +5,7 @@ use Rattle.rounds.proofs.judging.Rounds.finish.Given as goal
 abbrev pub invariant-loop : goal.invariant-loop
 invariant-loop l = record {
   index : l.self.index ≡ l.initial.self.index;
-  going : Going (domain_in l.self.index) (vec_items l.self.tasks) (vec_items l.self.stages) l.self.count true
+  going : Going (domain_in l.self.index) (vec_items l.self.tasks) (vec_items l.self.stages) l.self.count true;
 }
 
 abbrev pub decreases-loop : goal.decreases-loop

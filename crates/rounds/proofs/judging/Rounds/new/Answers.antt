@@ -1,4 +1,4 @@
-use Rattle.std.proofs.Common.{◌≡◌, List, vec_items, sym, subst}
+use Rattle.std.proofs.Common.{vec_items, sym, subst}
 use Rattle.plans.specs.Domains.{domain_of}
 use Rattle.plans.proofs.Formed.{port_formed}
 use Rattle.port.specs.Model.{model_of}

@@ -1,4 +1,4 @@
-use Rattle.std.proofs.Common.{◌≡◌, ◌+◌, List, ◌++◌, length, take, drop, vec_items, vec_len, ◌∙◌, subst}
+use Rattle.std.proofs.Common.{◌+◌, List, ◌++◌, length, take, drop, vec_items, vec_len, ◌∙◌, subst}
 use Rattle.std.proofs.lemmas.List.{take_at}
 use Rattle.plans.specs.Simulation.{Domain}
 use Rattle.plans.proofs.Formed.{port_formed}

@@ -1,4 +1,4 @@
-use Rattle.std.proofs.Common.{◌≡◌, vec_items, sym, ap, ◌∙◌, ap₂}
+use Rattle.std.proofs.Common.{vec_items, ◌∙◌, ap₂}
 use Rattle.costs.specs.Models.{count_list, moves_model}
 use Rattle.index.specs.Indexed.{port_of}
 use Rattle.rounds.specs.Rounds.{domain_in}
