@@ -2,15 +2,13 @@
 use Rattle.std.proofs.Common.{◌≡◌, ℕ, List, [], ◌∷◌, ◌++◌, map, refl, ap, ◌∙◌, subst}
 use Rattle.port.specs.Limits.{Rise}
 use Rattle.port.specs.Model.{Model, model_of}
-use Rattle.port.specs.declared.held.Port.{Port}
 use Rattle.costs.specs.Costs.{Model as CostsOf}
 use Rattle.solver.specs.Policy.{World}
 use Rattle.histories.specs.declared.Command.{Command}
 use Rattle.histories.specs.Calls.{Event, History}
-use Rattle.control.specs.declared.answer.Answer.{Answer}
-use Rattle.control.specs.declared.policy.Policy.{Policy}
-use Rattle.control.specs.Worlds.{world}
-use Rattle.control.specs.States.{State, at_of, Does}
+use Rattle.control.specs.declared.terms.Terms.{Terms}
+use Rattle.control.specs.Worlds.{terms_world}
+use Rattle.control.specs.States.{Answer, State, at_of, Does}
 use Rattle.control.specs.Outings.{Turn, Course, Logged, ShowsAll}
 use Rattle.control.proofs.Done.{did_own}
 
@@ -59,13 +57,11 @@ module _ {K : Type 0} (e : K → List ℕ) (w : World) (P : Model) (up : Rise P.
         chained = (refl, d.1.1, rest.chained);
       }
 
--- a call of a controller whose port, policy and lock are those that it began with
-pub does_there : {K : Type 0} (k : CostsOf) (e : K → List ℕ) (y' y : Port) (t' t : Policy K) (M' M : Model) → y' ≡ y → t' ≡ t → M' ≡ M →
+-- a call of a controller whose terms and lock are those that it began with
+pub does_there : {X K : Type 0} (k : CostsOf) (e : K → List ℕ) (t' t : Terms X K) (M' M : Model) → t' ≡ t → M' ≡ M →
     (a : State) (c : Command) (r : Answer K) (b : State) →
-    Does e (world k e y' t') (model_of y').conditions M' a c r b → Does e (world k e y t) (model_of y).conditions M a c r b
-does_there {K} k e y' y t' t M' M p q h a c r b d =
-    let d1 : Does e (world k e y t') (model_of y).conditions M' a c r b =
-    subst (λ (x : Port). Does e (world k e x t') (model_of x).conditions M' a c r b) p d in
-    let d2 : Does e (world k e y t) (model_of y).conditions M' a c r b =
-    subst (λ (x : Policy K). Does e (world k e y x) (model_of y).conditions M' a c r b) q d1 in
-    subst (λ (x : Model). Does e (world k e y t) (model_of y).conditions x a c r b) h d2
+    Does e (terms_world k e t') (model_of t'.port.now).conditions M' a c r b → Does e (terms_world k e t) (model_of t.port.now).conditions M a c r b
+does_there {X} {K} k e t' t M' M p h a c r b d =
+    let d1 : Does e (terms_world k e t) (model_of t.port.now).conditions M' a c r b =
+    subst (λ (x : Terms X K). Does e (terms_world k e x) (model_of x.port.now).conditions M' a c r b) p d in
+    subst (λ (x : Model). Does e (terms_world k e t) (model_of t.port.now).conditions x a c r b) h d1

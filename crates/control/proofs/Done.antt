@@ -1,5 +1,5 @@
--- A step, from what was ruled and what the lock did; and the calls over a lock of the controller's own port.
-use Rattle.std.proofs.Common.{◌≡◌, ℕ, true, false, List, Some, None, Ok, Option, sym, refl, ap, ◌∙◌, subst, inl, inr, arith}
+-- Calls over a lock of the controller's own port, and calls that a rule refuses.
+use Rattle.std.proofs.Common.{◌≡◌, ℕ, true, false, List, Some, Ok, Err, Option, Result, IsErrAnd, sym, refl, ap, ◌∙◌, subst, inl, inr, arith}
 use Rattle.port.specs.Limits.{Rise}
 use Rattle.port.specs.Model.{Model}
 use Rattle.port.specs.declared.Move.{Move}
@@ -10,34 +10,20 @@ use Rattle.locks.proofs.Standing.{place_found, place_is, possible_means}
 use Rattle.solver.specs.declared.Entry.{Entry}
 use Rattle.solver.specs.declared.Entry.TheVariants.{Work}
 use Rattle.solver.specs.Policy.{World}
+use Rattle.costs.specs.Costs.{Model as CostsOf}
 use Rattle.histories.specs.declared.Command.{Command}
 use Rattle.histories.specs.declared.Command.TheVariants.{Step}
 use Rattle.histories.specs.Calls.{Answer as Told}
 use Rattle.histories.specs.Calls.{At, Passes, refusal, rules, entry_at, stuck, Took, quoted, granted, worked, closed, refused}
 use Rattle.histories.proofs.Basics.{some_inj, not_false, passes_clear}
-use Rattle.control.specs.declared.answer.Answer.{Answer}
-use Rattle.control.specs.declared.answer.Answer.TheVariants.{Quoted, Granted, Worked, Closed, Refused}
-use Rattle.control.specs.declared.answer.Ruling.TheVariants.{Work as Operate}
+use Rattle.control.specs.declared.answer.Reply.{Reply}
+use Rattle.control.specs.declared.answer.Reply.TheVariants.{Quoted, Granted, Worked, Closed}
 use Rattle.control.specs.declared.refusal.Refusal.{Refusal}
+use Rattle.control.specs.declared.controller.Controller.{Controller}
+use Rattle.control.specs.Controllers.{RulesCall, DidCall}
 use Rattle.control.specs.Numbers.{refusal_number}
 use Rattle.control.specs.Rulings.{Next}
-use Rattle.control.specs.States.{State, state, at_of, Ruled, Balks, Does, Did}
-
-module _ {K : Type 0} (e : K → List ℕ) (w : World) (cs : List ℕ) (M : Model) (s : ℕ) (out : Option ℕ) (k : Command) (m₀ m o m' : ℕ) (same : m₀ ≡ m)
-    (ruled : Ruled e w (at_of cs (state s out m₀)) k (Ok (Operate o))) where
-  here : Ruled e w (at_of cs (state s out m)) k (Ok (Operate o))
-  here = subst (λ (x : ℕ). Ruled e w (at_of cs (state s out x)) k (Ok (Operate o))) same ruled
-
-  pub does_worked : LockWorked M m o true m' → Does e w cs M (state s out m) k (Worked o) (state s out m')
-  does_worked lock = let r = here in (r.0, (r.1.0, r.1.1, r.1.2, lock, refl))
-
-  pub does_balked : LockWorked M m o false m' → (r : Refusal) → refusal_number r ≡ 29 → Does e w cs M (state s out m) k (Refused r) (state s out m')
-  does_balked lock r n =
-      let h = here in
-      let stays : m' ≡ m = (lock.refuses refl).0 in (
-        ap (state s out) stays,
-        inr (h.0, o, (h.1.0, h.1.1, h.1.2, subst (λ (x : ℕ). LockWorked M m o false x) stays lock, n)),
-      )
+use Rattle.control.specs.States.{Answer, State, state, at_of, Balks, Does, Did, answer_of}
 
 -- the place of a condition's marks
 pub placed_at : (P : Model) (c m : ℕ) → Rise P.conditions → IsAt P c m → place_of P.conditions m ≡ Some c
@@ -46,7 +32,7 @@ placed_at P c m up a = sym (place_found P.conditions c m a.0 a.1 (λ i l e. let 
 module _ {K : Type 0} (e : K → List ℕ) (w : World) (P : Model) (up : Rise P.conditions) (moves : w.domain.moves ≡ P.moves) where
   stepped : (a b : State) (q o : ℕ) → Passes w (at_of P.conditions a) (Step q) → Next w (place_of P.conditions a.marks) q o →
       LockWorked P a.marks o true b.marks → b ≡ state a.stage a.out b.marks →
-      Did e w (at_of P.conditions a) (Step q) (Worked o) (at_of P.conditions b)
+      Did e w (at_of P.conditions a) (Step q) (Ok (Worked o)) (at_of P.conditions b)
   stepped a b q o passes next lock is =
       let l = lock.accepts refl in
       let c : ℕ = l.0 in
@@ -93,44 +79,22 @@ module _ {K : Type 0} (e : K → List ℕ) (w : World) (P : Model) (up : Rise P.
   -- over a lock of the controller's own port each call is one of a history
   pub did_own : (M : Model) → M ≡ P → (a : State) (k : Command) (r : Answer K) (b : State) → Does e w P.conditions M a k r b →
       Did e w (at_of P.conditions a) k r (at_of P.conditions b)
-  did_own M own a k (Quoted x) b d = (quoted (e x), (refl, (d.0, (d.1.0, d.1.1, d.1.2, ap (at_of P.conditions) d.1.3))))
-  did_own M own a k (Granted x) b d = (granted (e x), (refl, (d.0, (d.1.0, d.1.1, d.1.2, ap (at_of P.conditions) d.1.3))))
-  did_own M own a k (Closed t) b d = (closed t, (refl, (d.0, (d.1.0, d.1.1, d.1.2, ap (at_of P.conditions) d.1.3))))
-  did_own M own a k (Worked o) b d =
+  did_own M own a k (Ok (Quoted x)) b d = (quoted (e x), (refl, (d.0, (d.1.0, d.1.1, d.1.2, ap (at_of P.conditions) d.1.3))))
+  did_own M own a k (Ok (Granted x)) b d = (granted (e x), (refl, (d.0, (d.1.0, d.1.1, d.1.2, ap (at_of P.conditions) d.1.3))))
+  did_own M own a k (Ok (Closed t)) b d = (closed t, (refl, (d.0, (d.1.0, d.1.1, d.1.2, ap (at_of P.conditions) d.1.3))))
+  did_own M own a k (Ok (Worked o)) b d =
       let lock : LockWorked P a.marks o true b.marks = subst (λ (x : Model). LockWorked x a.marks o true b.marks) own d.1.3 in
-      subst (λ (x : Command). Did e w (at_of P.conditions a) x (Worked o) (at_of P.conditions b)) (sym d.1.0)
+      subst (λ (x : Command). Did e w (at_of P.conditions a) x (Ok (Worked o)) (at_of P.conditions b)) (sym d.1.0)
       (stepped a b d.0 o d.1.1 d.1.2 lock d.1.4)
-  did_own M own a k (Refused r) b (is, inl n) = (refused (refusal_number r), (refl, (n, ap (at_of P.conditions) is)))
-  did_own M own a k (Refused r) b (is, inr h) =
+  did_own M own a k (Err r) b (is, inl n) = (refused (refusal_number r), (refl, (n, ap (at_of P.conditions) is)))
+  did_own M own a k (Err r) b (is, inr h) =
       absurd (never_balks a k r (subst (λ (x : Model). Balks w P.conditions x a k r) own h))
 
--- A call that leaves the lock alone, told of the lock's condition, is the same told of its marks.
-module _ {K : Type 0} (e : K → List ℕ) (w : World) (cs : List ℕ) (M : Model) (s s' : ℕ) (out out' : Option ℕ) (m : ℕ) (k k' : Command) (is : k ≡ k') where
-  abbrev A : At
-  A = at_of cs (state s out m)
-
-  abbrev B : At
-  B = at_of cs (state s' out' m)
-
-  whole : (t : ℕ) (o : Option ℕ) → B ≡ record { stage = t; out = o; place = place_of cs m } → state s' out' m ≡ state t o m
-  whole t o b = ap (λ (x : ℕ). state x out' m) (ap (λ (x : At). x.stage) b) ∙ ap (λ (x : Option ℕ). state t x m) (ap (λ (x : At). x.out) b)
-
-  pub still_quoted : (x : K) → Did e w A k' (Quoted x) B → Does e w cs M (state s out m) k (Quoted x) (state s' out' m)
-  still_quoted x d =
-      let t = subst (λ (y : Told). Took w A k' y B) d.1.0 d.1.1 in
-      (t.0, (is ∙ t.1.0, t.1.1, t.1.2, whole s out t.1.3))
-
-  pub still_granted : (x : K) → Did e w A k' (Granted x) B → Does e w cs M (state s out m) k (Granted x) (state s' out' m)
-  still_granted x d =
-      let t = subst (λ (y : Told). Took w A k' y B) d.1.0 d.1.1 in
-      (t.0, (is ∙ t.1.0, t.1.1, t.1.2, whole s (Some t.0) t.1.3))
-
-  pub still_closed : (x : ℕ) → Did e w A k' (Closed x) B → Does e w cs M (state s out m) k (Closed x) (state s' out' m)
-  still_closed x d =
-      let t = subst (λ (y : Told). Took w A k' y B) d.1.0 d.1.1 in
-      (t.0, (is ∙ t.1.0, t.1.1, t.1.2, whole x None t.1.3))
-
-  pub still_refused : (r : Refusal) → Did e w A k' (Refused r) B → Does e w cs M (state s out m) k (Refused r) (state s' out' m)
-  still_refused r d =
-      let t = subst (λ (y : Told). Took w A k' y B) d.1.0 d.1.1 in
-      (whole s out t.1, inl (subst (λ (y : Command). refusal (rules w A y) ≡ Some (refusal_number r)) (sym is) t.0))
+-- A call that a rule refuses changes nothing, and its error is the rule's.
+pub did_refused : {X K Y : Type 0} (k : CostsOf) (e : K → List ℕ) (a : Controller X K) (m₀ m : ℕ) → m₀ ≡ m → (c : Command) (f : Y → Reply K)
+    (r : Result Y Refusal) (x : Refusal) (P : Refusal → Type 0) → RulesCall k e a m₀ c (Err x) → IsErrAnd r P → ((y : Refusal) → P y → y ≡ x) →
+    DidCall k e a m c (answer_of f r) a m
+did_refused k e a m₀ m is c f (Ok y) x P n h same = absurd h
+did_refused k e a m₀ m is c f (Err y) x P n h same =
+    let here = subst (λ (z : ℕ). RulesCall k e a z c (Err x)) is n in
+    (refused (refusal_number y), (refl, (here ∙ ap (λ (z : Refusal). Some (refusal_number z)) (sym (same y h)), refl)))

@@ -2,5 +2,5 @@ pub mod Courses
 pub mod Done
 pub mod Opened
 pub mod Outed
+pub mod Requests
 pub mod Ruled
-pub mod Tables

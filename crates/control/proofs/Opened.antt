@@ -1,5 +1,5 @@
 -- What an opening settles.
-use Rattle.std.proofs.Common.{◌≡◌, ℕ, ◌+◌, ◌*◌, Bool, true, false, not, eqb, List, length, get_or, Some, None, Option, sym, refl, ap, ◌∙◌, inl, inr, eqb→eq}
+use Rattle.std.proofs.Common.{◌≡◌, ℕ, ◌+◌, ◌*◌, Bool, true, false, not, eqb, List, length, get_or, Some, None, Option, Result, ok_or, subst, sym, refl, ap, ◌∙◌, inl, inr, eqb→eq}
 use Rattle.port.specs.Model.{model_of}
 use Rattle.port.specs.declared.held.Port.{Port}
 use Rattle.plans.specs.Domains.{domain_of}
@@ -8,12 +8,15 @@ use Rattle.costs.specs.Costs.{Model, Laws}
 use Rattle.solver.specs.Policy.{World, Solved}
 use Rattle.solver.specs.Solving.{enough}
 use Rattle.locks.proofs.Standing.{place_is}
-use Rattle.histories.specs.Calls.{refusal, placed, rank_of, open_rules, Opens, start_at}
+use Rattle.histories.specs.Calls.{refusal, offered, placed, rank_of, open_rules, Opens, start_at}
 use Rattle.histories.specs.Promise.{Promised, Opening}
 use Rattle.histories.proofs.Basics.{was_true, eq_true, passes_clear, clear_passes}
 use Rattle.histories.proofs.Rulings.{is_placed}
 use Rattle.histories.proofs.Holds.{promise_holds, opening_holds}
 use Rattle.control.specs.declared.policy.Policy.{Policy}
+use Rattle.control.specs.declared.refusal.Refusal.{Refusal}
+use Rattle.control.specs.declared.refusal.Refusal.TheVariants.{NoCondition}
+use Rattle.control.specs.Rulings.{Spotted, spot_rules}
 use Rattle.control.specs.Worlds.{world, place_in, opening_rules}
 use Rattle.control.proofs.Ruled.{stops}
 
@@ -72,3 +75,14 @@ module _ {K : Type 0} (k : Model) (e : K → List ℕ) (p : Port) (t : Policy K)
 
   pub opening : Solved w → (c : ℕ) → place_in p m ≡ Some c → Opening w s c
   opening sv c at = opening_holds w sv s c p.start_stage (place_is (model_of p).conditions m c at).0
+
+-- a look-up of the lock's marks settles where it stands, for a request of the stage
+pub spotted : {K : Type 0} (k : Model) (e : K → List ℕ) (p : Port) (t : Policy K) (s m q : ℕ) → offered (world k e p t) s q ≡ true →
+    (o : Option ℕ) → o ≡ place_in p m → (r : Result ℕ Refusal) → r ≡ ok_or o NoCondition → Spotted (world k e p t) s (place_in p m) q r
+spotted k e p t s m q offer o at r is = subst (λ (x : Result ℕ Refusal). Spotted (world k e p t) s (place_in p m) q x) (sym is) (go o at)
+  where
+    go : (o : Option ℕ) → o ≡ place_in p m → Spotted (world k e p t) s (place_in p m) q (ok_or o NoCondition)
+    go None at =
+        stops (spot_rules (world k e p t) s (place_in p m) q) 23
+        (inr (ap not offer, inl (ap (λ (x : Option ℕ). not (placed (world k e p t) x)) (sym at), refl)))
+    go (Some c) at = record { offer = offer; at = sym at; inside = (place_is (model_of p).conditions m c (sym at)).0 }

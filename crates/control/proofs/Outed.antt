@@ -1,5 +1,5 @@
 -- What an outing comes to, from what its parts promise.
-use Rattle.std.proofs.Common.{◌≡◌, ℕ, ◌*◌, Bool, true, cond, not, leb, List, length, Some, None, vec_len, sym, refl, ap, ◌∙◌, subst, arith, le→leb}
+use Rattle.std.proofs.Common.{◌≡◌, ℕ, ◌*◌, Bool, true, cond, not, leb, List, length, Some, None, Option, vec_len, sym, refl, ap, ◌∙◌, subst, arith, le→leb}
 use Rattle.port.specs.Model.{model_of}
 use Rattle.port.specs.Model.{Model as PortModel}
 use Rattle.port.specs.declared.held.Port.{Port}
@@ -11,15 +11,15 @@ use Rattle.solver.specs.Solving.{enough}
 use Rattle.histories.specs.declared.Command.{Command}
 use Rattle.histories.specs.Calls.{refusal, open_rules}
 use Rattle.histories.proofs.Basics.{is_true, true_and}
-use Rattle.control.specs.declared.answer.Answer.{Answer}
 use Rattle.control.specs.declared.policy.Policy.{Policy}
 use Rattle.control.specs.declared.refusal.Refusal.{Refusal}
-use Rattle.control.specs.States.{state}
-use Rattle.control.specs.Outings.{Ready, Stocked, ShowsAll, Outed, Toured, Turned, Told, Barred}
-use Rattle.control.specs.Worlds.{world, place_in}
+use Rattle.control.specs.Numbers.{refusal_number}
+use Rattle.control.specs.States.{Answer, State, state}
+use Rattle.control.specs.Outings.{Ready, Stocked, Logged, ShowsAll, Outed, Told, Barred}
+use Rattle.control.specs.Worlds.{opening_rules, world, place_in}
 use Rattle.control.proofs.Courses.{retold}
 use Rattle.control.proofs.Opened.{opens_in, promises, opening}
-use Rattle.control.proofs.Tables.{count_tasks}
+use Rattle.control.proofs.Requests.{count_tasks}
 
 -- tables of these lengths have room for the port
 pub roomy : {K : Type 0} (p : Port) (entries : List Entry) (costs : List K) (ranks : List ℕ) →
@@ -42,44 +42,56 @@ module _ {K : Type 0} (k : Model) (e : K → List ℕ) (p : Port) (t : Policy K)
   ready : Ready (model_of p) k (world k e p t)
   ready = record { over = refl; under = refl; solved = sv }
 
-  pub told : Laws k → (M : PortModel) (m : ℕ) (ks : List Command) (rs : List (Answer K)) (m' : ℕ) → Toured k e p t M m ks rs m' →
-      Told k e (model_of p) M m ks m' rs
-  told laws M m ks rs m' d =
+  pub told : Laws k → (M : PortModel) (m : ℕ) (ks : List Command) (rs : List (Answer K)) (last : State) →
+      refusal (opening_rules k e p t m) ≡ None →
+      Logged e (world k e p t) (model_of p).conditions M (state p.header.stage None m) ks rs last →
+      Told k e (model_of p) M m ks last.marks rs
+  told laws M m ks rs last opens logged =
       record {
         world = world k e p t;
         ready = ready;
-        opens = opens_in k e p t m d.opens;
+        opens = opens_in k e p t m opens;
         kept = opening k e p t m sv;
-        last = d.last;
-        logged = d.logged;
-        ends = d.ends;
+        last = last;
+        logged = logged;
+        ends = refl;
         outed = outed;
       }
     where
-      outed : M ≡ model_of p → Outed e (world k e p t) p.header.stage (place_in p m) (place_in p m') ks rs
+      outed : M ≡ model_of p → Outed e (world k e p t) p.header.stage (place_in p m) (place_in p last.marks) ks rs
       outed own =
-          let l = d.logged in
-          let h = retold e (world k e p t) (model_of p) p.conditions_rise refl M own l.turns (state p.header.stage None m) d.last l.chained in
+          let h = retold e (world k e p t) (model_of p) p.conditions_rise refl M own logged.turns (state p.header.stage None m) last logged.chained in
           record {
             history = h.history;
             end = _;
-            asked = h.asked ∙ l.asked;
-            answered = subst (λ (x : List (Answer K)). ShowsAll e x h.history) l.answered h.answered;
+            asked = h.asked ∙ logged.asked;
+            answered = subst (λ (x : List (Answer K)). ShowsAll e x h.history) logged.answered h.answered;
             chained = h.chained;
-            ends = ap (place_in p) d.ends;
-            promise = promises k e p t m laws d.opens sv h.history _ h.chained;
+            ends = refl;
+            promise = promises k e p t m laws opens sv h.history _ h.chained;
           }
 
-  pub barred : enough (domain_of (model_of p)) t.entries.now t.costs.now t.ranks.now ≡ true → (m m' : ℕ) (r : Refusal) →
-      Turned k e p t m m' r → Barred k (model_of p) m m' r
-  barred room m m' r d =
+  pub barred : enough (domain_of (model_of p)) t.entries.now t.costs.now t.ranks.now ≡ true → (m : ℕ) (r : Refusal) →
+      refusal (opening_rules k e p t m) ≡ Some (refusal_number r) → Barred k (model_of p) m m r
+  barred room m r d =
       record {
         world = world k e p t;
         ready = ready;
-        refused = sym (ap (λ (b : Bool). cond (not b) (Some 12) (refusal (open_rules (world k e p t) p.header.stage (place_in p m)))) room) ∙ d.refused;
+        refused = sym (ap (λ (b : Bool). cond (not b) (Some 12) (refusal (open_rules (world k e p t) p.header.stage (place_in p m)))) room) ∙ d;
         kept = opening k e p t m sv;
-        stays = d.stays;
+        stays = refl;
       }
+
+-- a log of a controller that was opened with these terms
+pub logged_there : {K : Type 0} (k : Model) (e : K → List ℕ) (p' p : Port) (t' t : Policy K) (M : PortModel) (s' s : ℕ) (o' o : Option ℕ) →
+    p' ≡ p → t' ≡ t → s' ≡ s → o' ≡ o → (m : ℕ) (ks : List Command) (rs : List (Answer K)) (last : State) →
+    Logged e (world k e p' t') (model_of p').conditions M (state s' o' m) ks rs last →
+    Logged e (world k e p t) (model_of p).conditions M (state s o m) ks rs last
+logged_there {K} k e p' p t' t M s' s o' o ep et es eo m ks rs last l =
+    let l1 = subst (λ (x : Port). Logged e (world k e x t') (model_of x).conditions M (state s' o' m) ks rs last) ep l in
+    let l2 = subst (λ (x : Policy K). Logged e (world k e p x) (model_of p).conditions M (state s' o' m) ks rs last) et l1 in
+    let l3 = subst (λ (x : ℕ). Logged e (world k e p t) (model_of p).conditions M (state x o' m) ks rs last) es l2 in
+    subst (λ (x : Option ℕ). Logged e (world k e p t) (model_of p).conditions M (state s x m) ks rs last) eo l3
 
 -- tables that a policy shows are those it was made of
 pub stocked : {K : Type 0} (k : Model) (e : K → List ℕ) (p : Port) (t : Policy K) (es : List Entry) (cs : List K) (rs : List ℕ) →

@@ -1,3 +1,4 @@
+pub mod Controllers
 pub mod Numbers
 pub mod Outings
 pub mod Rulings

@@ -12,14 +12,11 @@ use Rattle.locks.specs.Places.{place_of}
 use Rattle.histories.specs.declared.Command.{Command}
 use Rattle.histories.specs.Calls.{At, Event, History, Opens, refusal, open_rules, start_at}
 use Rattle.histories.specs.Promise.{Promise, Opening}
-use Rattle.control.specs.declared.answer.Answer.{Answer}
 use Rattle.control.specs.declared.refusal.Refusal.{Refusal}
-use Rattle.control.specs.declared.policy.Policy.{Policy}
 use Rattle.control.specs.declared.tour.OutingError.{OutingError}
 use Rattle.control.specs.declared.tour.OutingError.TheVariants.{Refused, Memory}
 use Rattle.control.specs.Numbers.{refusal_number}
-use Rattle.control.specs.States.{State, state, Does, Shows}
-use Rattle.control.specs.Worlds.{world, opening_rules}
+use Rattle.control.specs.States.{Answer, State, state, Does, Shows}
 
 -- One call of an outing.
 pub record Turn (K : Type 0) : Type 0 where
@@ -67,18 +64,6 @@ pub record Ready (P : PortModel) (k : Model) (w : World) : Type 0 where
 pub record Stocked {K : Type 0} (k : Model) (e : K → List ℕ) (p : Port) (entries : List Entry) (costs : List K) (ranks : List ℕ) : Type 0 where
   pub room : enough (domain_of (model_of p)) entries costs ranks ≡ true
   pub solved : Solved (world_of (domain_of (model_of p)) k e entries costs ranks)
-
--- With a policy that is handed: the opening was accepted, and these calls were made.
-pub record Toured {K : Type 0} (k : Model) (e : K → List ℕ) (p : Port) (t : Policy K) (M : PortModel) (m : ℕ) (ks : List Command) (rs : List (Answer K)) (m' : ℕ) : Type 0 where
-  pub opens : refusal (opening_rules k e p t m) ≡ None
-  pub last : State
-  pub logged : Logged e (world k e p t) (model_of p).conditions M (state p.header.stage None m) ks rs last
-  pub ends : last.marks ≡ m'
-
--- The opening was refused, and the lock is as it was.
-pub record Turned {K : Type 0} (k : Model) (e : K → List ℕ) (p : Port) (t : Policy K) (m m' : ℕ) (r : Refusal) : Type 0 where
-  pub refused : refusal (opening_rules k e p t m) ≡ Some (refusal_number r)
-  pub stays : m' ≡ m
 
 -- The log of an outing over a lock whose port is M: the answers to the commands, one for one, from an accepted opening. Over a lock of the same port they are a
 -- history with the promise.

@@ -10,14 +10,16 @@ use Rattle.histories.specs.declared.Command.{Command}
 use Rattle.histories.specs.declared.Command.TheVariants.{Quote, Ask, Step, Close}
 use Rattle.histories.specs.Calls.{At, Passes, refusal, rules, cost_at, Took, quoted, granted, worked, closed, refused}
 use Rattle.histories.specs.Calls.{Answer as Told}
-use Rattle.control.specs.declared.answer.Answer.{Answer}
-use Rattle.control.specs.declared.answer.Answer.TheVariants.{Quoted, Granted, Worked, Closed, Refused}
-use Rattle.control.specs.declared.answer.Ruling.{Ruling}
-use Rattle.control.specs.declared.answer.Ruling.TheVariants.{Tell, Grant, Work as Operate, Finish}
+use Rattle.control.specs.declared.answer.Reply.{Reply}
+use Rattle.control.specs.declared.answer.Reply.TheVariants.{Quoted, Granted, Worked, Closed}
 use Rattle.control.specs.declared.grant.Grant.{Grant as Token}
 use Rattle.control.specs.declared.refusal.Refusal.{Refusal}
 use Rattle.control.specs.Numbers.{refusal_number}
 use Rattle.control.specs.Rulings.{Next}
+
+-- What the program answers a command: a reply, or why there is none.
+abbrev pub Answer : Type 0 → Type 0
+Answer K = Result (Reply K) Refusal
 
 -- Where a controller is, and the marks of the lock beside it.
 pub record State : Type 0 where
@@ -32,13 +34,13 @@ state s o m = record { stage = s; out = o; marks = m }
 abbrev pub at_of : List ℕ → State → At
 at_of cs a = record { stage = a.stage; out = a.out; place = place_of cs a.marks }
 
--- What a command comes to, before the lock is touched: the first rule that refuses it, or else what is to be done.
-abbrev pub Ruled : {K : Type 0} → (K → List ℕ) → World → At → Command → Result (Ruling K) Refusal → Type 0
+-- What a command comes to, before the lock is touched: the first rule that refuses it, or else its reply if the lock does as it is bidden.
+abbrev pub Ruled : {K : Type 0} → (K → List ℕ) → World → At → Command → Answer K → Type 0
 Ruled e w a k (Err r) = refusal (rules w a k) ≡ Some (refusal_number r)
-Ruled e w a k (Ok (Tell x)) = (q : ℕ) × ((k ≡ Quote q) × Passes w a (Quote q) × (e x ≡ cost_at w q a.place))
-Ruled e w a k (Ok (Grant x)) = (q : ℕ) × ((k ≡ Ask q) × Passes w a (Ask q) × (e x ≡ cost_at w q a.place))
-Ruled e w a k (Ok (Operate o)) = (q : ℕ) × ((k ≡ Step q) × Passes w a (Step q) × Next w a.place q o)
-Ruled e w a k (Ok (Finish s)) = (q : ℕ) × ((k ≡ Close q) × Passes w a (Close q) × (s ≡ (task_at w.domain q).to))
+Ruled e w a k (Ok (Quoted x)) = (q : ℕ) × ((k ≡ Quote q) × Passes w a (Quote q) × (e x ≡ cost_at w q a.place))
+Ruled e w a k (Ok (Granted x)) = (q : ℕ) × ((k ≡ Ask q) × Passes w a (Ask q) × (e x ≡ cost_at w q a.place))
+Ruled e w a k (Ok (Worked o)) = (q : ℕ) × ((k ≡ Step q) × Passes w a (Step q) × Next w a.place q o)
+Ruled e w a k (Ok (Closed s)) = (q : ℕ) × ((k ≡ Close q) × Passes w a (Close q) × (s ≡ (task_at w.domain q).to))
 
 -- No rule refuses the step, but the lock, whose port is M, does: it belongs to another port. That is refusal 29.
 abbrev pub Balks : World → List ℕ → Model → State → Command → Refusal → Type 0
@@ -49,56 +51,51 @@ Balks w cs M a k r =
 -- One call over a lock whose port is M: where it finds controller and lock, what is asked, what is answered, and where it leaves them. A refusal
 -- changes nothing. A step works the policy's operation, and of the lock's marks after it only the lock's own meaning is known.
 abbrev pub Does : {K : Type 0} → (K → List ℕ) → World → List ℕ → Model → State → Command → Answer K → State → Type 0
-Does e w cs M a k (Refused r) b = (b ≡ a) × ((refusal (rules w (at_of cs a) k) ≡ Some (refusal_number r)) ⊎ Balks w cs M a k r)
-Does e w cs M a k (Quoted x) b =
+Does e w cs M a k (Err r) b = (b ≡ a) × ((refusal (rules w (at_of cs a) k) ≡ Some (refusal_number r)) ⊎ Balks w cs M a k r)
+Does e w cs M a k (Ok (Quoted x)) b =
     (q : ℕ) × ((k ≡ Quote q) × Passes w (at_of cs a) (Quote q) × (e x ≡ cost_at w q (place_of cs a.marks)) × (b ≡ a))
-Does e w cs M a k (Granted x) b =
+Does e w cs M a k (Ok (Granted x)) b =
     (q : ℕ) × ((k ≡ Ask q) × Passes w (at_of cs a) (Ask q) × (e x ≡ cost_at w q (place_of cs a.marks))
     × (b ≡ state a.stage (Some q) a.marks))
-Does e w cs M a k (Worked o) b =
+Does e w cs M a k (Ok (Worked o)) b =
     (q : ℕ) × ((k ≡ Step q) × Passes w (at_of cs a) (Step q) × Next w (place_of cs a.marks) q o × LockWorked M a.marks o true b.marks
     × (b ≡ state a.stage a.out b.marks))
-Does e w cs M a k (Closed s) b =
+Does e w cs M a k (Ok (Closed s)) b =
     (q : ℕ) × ((k ≡ Close q) × Passes w (at_of cs a) (Close q) × (s ≡ (task_at w.domain q).to) × (b ≡ state s None a.marks))
 
 -- An answer of the program stands for one of a history: costs by their exact costs, a step by its move's operation, a refusal by its number.
 abbrev pub Shows : {K : Type 0} → (K → List ℕ) → Answer K → Told → Type 0
-Shows e (Quoted x) t = t ≡ quoted (e x)
-Shows e (Granted x) t = t ≡ granted (e x)
-Shows e (Worked o) t = (m : Move) × ((t ≡ worked m) × (m.operation ≡ o))
-Shows e (Closed s) t = t ≡ closed s
-Shows e (Refused r) t = t ≡ refused (refusal_number r)
+Shows e (Ok (Quoted x)) t = t ≡ quoted (e x)
+Shows e (Ok (Granted x)) t = t ≡ granted (e x)
+Shows e (Ok (Worked o)) t = (m : Move) × ((t ≡ worked m) × (m.operation ≡ o))
+Shows e (Ok (Closed s)) t = t ≡ closed s
+Shows e (Err r) t = t ≡ refused (refusal_number r)
 
 -- The call is one of a history, with this answer.
 abbrev pub Did : {K : Type 0} → (K → List ℕ) → World → At → Command → Answer K → At → Type 0
 Did e w a k r b = (t : Told) × (Shows e r t × Took w a k t b)
 
--- What the operation to work next is as a ruling.
-abbrev pub work_ruling : {K : Type 0} → Result ℕ Refusal → Result (Ruling K) Refusal
-work_ruling (Ok o) = Ok (Operate o)
-work_ruling (Err r) = Err r
+-- A call's result as an answer: its value by the reply that it stands for, or its refusal.
+abbrev pub answer_of : {X K : Type 0} → (X → Reply K) → Result X Refusal → Answer K
+answer_of f (Ok x) = Ok (f x)
+answer_of f (Err r) = Err r
 
 -- What each call's result is as an answer.
 abbrev pub quote_answer : {K : Type 0} → Result K Refusal → Answer K
-quote_answer (Ok x) = Quoted x
-quote_answer (Err r) = Refused r
+quote_answer r = answer_of (λ x. Quoted x) r
 
 abbrev pub grant_answer : {K : Type 0} → Result K Refusal → Answer K
-grant_answer (Ok x) = Granted x
-grant_answer (Err r) = Refused r
+grant_answer r = answer_of (λ x. Granted x) r
 
 abbrev pub ask_answer : {K : Type 0} → Result (Token K) Refusal → Answer K
-ask_answer (Ok g) = Granted g.quote
-ask_answer (Err r) = Refused r
+ask_answer r = answer_of (λ g. Granted g.quote) r
 
 abbrev pub step_answer : {K : Type 0} → Result ℕ Refusal → Answer K
-step_answer (Ok o) = Worked o
-step_answer (Err r) = Refused r
+step_answer r = answer_of (λ o. Worked o) r
 
 abbrev pub finish_answer : {K : Type 0} → Result ℕ Refusal → Answer K
-finish_answer (Ok s) = Closed s
-finish_answer (Err r) = Refused r
+finish_answer r = answer_of (λ s. Closed s) r
 
 abbrev pub close_answer : {K : Type 0} → Result ℕ (Refusal × Token K) → Answer K
-close_answer (Ok s) = Closed s
-close_answer (Err p) = Refused p.0
+close_answer (Ok s) = Ok (Closed s)
+close_answer (Err p) = Err p.0

@@ -9,10 +9,15 @@ use Rattle.solver.specs.Solving.{enough}
 use Rattle.locks.specs.Places.{place_of}
 use Rattle.histories.specs.Calls.{Rule, rule, open_rules}
 use Rattle.control.specs.declared.policy.Policy.{Policy}
+use Rattle.control.specs.declared.terms.Terms.{Terms}
 
 -- The world that a port and a policy tell.
 abbrev pub world : {K : Type 0} → Model → (K → List ℕ) → Port → Policy K → World
 world k e p t = world_of (domain_of (model_of p)) k e t.entries.now t.costs.now t.ranks.now
+
+-- The world that a controller's terms tell.
+abbrev pub terms_world : {X K : Type 0} → Model → (K → List ℕ) → Terms X K → World
+terms_world k e t = world k e t.port.now t.policy
 
 -- The condition of the port with these marks, where there is one.
 abbrev pub place_in : Port → ℕ → Option ℕ

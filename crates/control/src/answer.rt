@@ -1,21 +1,14 @@
 // What a controller answers.
 use crate::refusal::Refusal;
 
-// What a command was answered: a quote, a grant with its quote, the operation worked, the stage gone on to, or a refusal.
-#[derive(Clone, Copy)]
-pub enum Answer<K> {
+// What a command that is not refused comes to: a quote, a grant with its quote, an operation worked, or a stage gone on to.
+#[derive(Clone, Copy, Debug, PartialEq)]
+pub enum Reply<K> {
     Quoted(K),
     Granted(K),
     Worked(u8),
     Closed(u8),
-    Refused(Refusal),
 }
 
-// What a command comes to, before it is done: tell a quote, grant with a quote, work an operation, or go on to a stage.
-#[derive(Clone, Copy)]
-pub(crate) enum Ruling<K> {
-    Tell(K),
-    Grant(K),
-    Work(u8),
-    Finish(u8),
-}
+// A reply, or why there is none.
+pub type Answer<K> = Result<Reply<K>, Refusal>;

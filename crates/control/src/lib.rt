@@ -4,15 +4,15 @@
 mod answer;
 mod calls;
 mod controller;
-mod fill;
 mod grant;
 mod opening;
+mod owned;
 mod policy;
 mod refusal;
-mod requests;
+mod terms;
 mod tour;
 
-pub use answer::Answer;
+pub use answer::{Answer, Reply};
 pub use controller::Controller;
 pub use grant::Grant;
 pub use policy::Policy;

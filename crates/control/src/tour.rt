@@ -1,28 +1,23 @@
 // A whole outing: solve a port, open a controller over a lock, and carry out commands.
-ghost use Rattle.std.specs.Prelude.{◌≡◌, ◌<◌, true, length, IfOk, MatchResult, OnOk, slice_set};
-ghost use Rattle.plans.specs.Domains.{domain_of};
+ghost use Rattle.std.specs.Prelude.{◌≡◌, ◌≤◌, [], length, vec_capacity, MatchResult};
 ghost use Rattle.port.specs.Model.{model_of};
-ghost use Rattle.solver.specs.Policy.{Solved, world_of};
-ghost use Rattle.solver.specs.Solving.{enough};
-ghost use Rattle.control.specs.Outings.{Failed, Logged, Stocked, Told, Toured, Turned};
+ghost use Rattle.control.specs.Outings.{Failed, Logged, Told};
 ghost use Rattle.control.specs.States.{state};
-ghost use Rattle.control.specs.Worlds.{world};
-ghost use Rattle.control.specs.declared.tour.OutingError.TheVariants.{Memory};
+ghost use Rattle.control.specs.Worlds.{terms_world};
+ghost use Rattle.control.specs.declared.tour.OutingError.TheVariants.{Memory, Refused};
 
 use crate::answer::Answer;
 use crate::controller::Controller;
-use crate::fill::filled;
-use crate::policy::Policy;
 use crate::refusal::Refusal;
+use crate::owned::solved;
 use costs::CostModel;
 use histories::Command;
 use locks::Lock;
 use port::Port;
-use solver::{Entry, SolveError, solve};
 use std::alloc::{AllocError, Global};
 
 // Why an outing has no log: the opening was refused, or there was no memory.
-#[derive(Clone, Copy)]
+#[derive(Clone, Copy, Debug, PartialEq, Eq)]
 pub enum OutingError {
     Refused(Refusal),
     Memory,
@@ -36,90 +31,32 @@ impl From<AllocError> for OutingError {
     }
 }
 
+impl From<Refusal> for OutingError {
+    ghost from_gives = { λ e r. r ≡ Refused e };
+
+    fn from(e: Refusal) -> OutingError {
+        OutingError::Refused(e)
+    }
+}
+
 impl<'a, C: CostModel> Controller<'a, C> {
     // Carries out commands, one after another, and logs the answer to each.
-    fn run<L: Lock>(&mut self, commands: &[Command], lock: &mut L, log: &mut [Answer<C::Cost>])
-        requires { length log.old ≡ length commands.now }
+    fn run<L: Lock>(
+        &mut self,
+        commands: &[Command],
+        lock: &mut L,
+        log: &mut Vec<Answer<C::Cost>>,
+    )
+        requires empty { log.old.items ≡ [] }
+        requires room { length commands.now ≤ vec_capacity log.old }
         ensures home { L.home lock.new ≡ L.home lock.old }
-        ensures logged { Logged C.exact (world C.model C.exact self.old.port.now self.old.policy) (model_of self.old.port.now).conditions (L.home lock.old) (state self.old.stage self.old.out (L.present lock.old)) commands.now log.new (state self.new.stage self.new.out (L.present lock.new)) }
+        ensures logged { Logged C.exact (terms_world C.model C.exact self.old.terms) (model_of self.old.terms.port.now).conditions (L.home lock.old) (state self.old.stage self.old.out (L.present lock.old)) commands.now log.new.items (state self.new.stage self.new.out (L.present lock.new)) }
     {
-        for i in 0..commands.len() {
-            note(log, i, self.perform(commands[i], lock));
+        for command in commands {
+            let answer = self.perform(*command, lock);
+            log.push(answer).unwrap();
         }
     }
-}
-
-// Notes an answer in a log.
-fn note<K: Copy>(log: &mut [Answer<K>], i: usize, answer: Answer<K>)
-    requires { i < length log.old }
-    ensures { log.new ≡ slice_set log.old i answer }
-{
-    log[i] = answer;
-}
-
-// Opens a controller and carries out the commands.
-fn take_out<'a, C: CostModel, L: Lock>(
-    port: &'a Port,
-    policy: Policy<'a, C::Cost>,
-    lock: &mut L,
-    commands: &[Command],
-    log: &mut [Answer<C::Cost>],
-) -> Result<(), Refusal>
-    requires { length log.old ≡ length commands.now }
-    ensures home { L.home lock.new ≡ L.home lock.old }
-    ensures toured { MatchResult result (λ _. Toured C.model C.exact port.now policy.entry (L.home lock.old) (L.present lock.old) commands.now log.new (L.present lock.new)) (λ e. Turned C.model C.exact port.now policy.entry (L.present lock.old) (L.present lock.new) e) }
-{
-    let mut controller = match Controller::<C>::open(port, policy, lock) {
-        Ok(controller) => controller,
-        Err(e) => {
-            return Err(e);
-        }
-    };
-    controller.run(commands, lock, log);
-    Ok(())
-}
-
-// The tables that solving a port fills.
-#[derive(Drop)]
-struct Tables<K: Copy> {
-    entries: Vec<Entry>,
-    costs: Vec<K>,
-    ranks: Vec<u16>,
-}
-
-// Solves a port into tables that have room for it.
-fn solve_into<C: CostModel>(
-    heap: Global,
-    port: &Port,
-    entries: &mut [Entry],
-    costs: &mut [C::Cost],
-    ranks: &mut [u16],
-) -> Result<(), AllocError>
-    requires { enough (domain_of (model_of port.now)) entries.old costs.old ranks.old ≡ true }
-    ensures { OnOk result (Solved (world_of (domain_of (model_of port.now)) C.model C.exact entries.new costs.new ranks.new)) }
-{
-    match solve::<C>(heap, port, entries, costs, ranks) {
-        Ok(_) => Ok(()),
-        Err(SolveError::Short) => unreachable(),
-        Err(SolveError::Memory) => Err(AllocError),
-    }
-}
-
-// Solves a port into tables of its own.
-fn solved_tables<C: CostModel>(heap: Global, port: &Port) -> Result<Tables<C::Cost>, AllocError>
-    ensures { IfOk result (λ t. Stocked C.model C.exact port.now t.entries.items t.costs.items t.ranks.items) }
-{
-    let width = port.conditions.len();
-    let places = port.requests.len() * width;
-    let mut entries = filled(heap, Entry::None, places)?;
-    let mut costs = filled(heap, C::zero(), places)?;
-    let mut ranks = filled(heap, 0, port.header.stages as usize * width)?;
-    solve_into::<C>(heap, port, &mut entries, &mut costs, &mut ranks)?;
-    Ok(Tables {
-        entries,
-        costs,
-        ranks,
-    })
 }
 
 // Solves the port, opens a controller over the lock at the port's start stage, carries out the commands, and returns their answers, one for
@@ -133,15 +70,9 @@ pub fn outing<C: CostModel, L: Lock>(
     ensures home { L.home lock.new ≡ L.home lock.old }
     ensures told { MatchResult result (λ log. Told C.model C.exact (model_of port.now) (L.home lock.old) (L.present lock.old) commands.now (L.present lock.new) log.items) (λ e. Failed C.model (model_of port.now) (L.present lock.old) (L.present lock.new) e) }
 {
-    let tables = solved_tables::<C>(heap, port)?;
-    let mut log = filled(heap, Answer::Refused(Refusal::Short), commands.len())?;
-    let policy = Policy {
-        entries: &tables.entries,
-        costs: &tables.costs,
-        ranks: &tables.ranks,
-    };
-    match take_out::<C, L>(port, policy, lock, commands, &mut log) {
-        Ok(()) => Ok(log),
-        Err(e) => Err(OutingError::Refused(e)),
-    }
+    let solved_policy = solved::<C>(heap, port)?;
+    let mut log = Vec::with_capacity(heap, commands.len())?;
+    let mut controller = Controller::<C>::open(port, solved_policy.policy(), lock)?;
+    controller.run(commands, lock, &mut log);
+    Ok(log)
 }

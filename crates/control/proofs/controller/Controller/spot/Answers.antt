@@ -1,14 +1,9 @@
 use Rattle.std.proofs.Common.{sym, ◌∙◌}
-use Rattle.port.specs.Model.{model_of}
-use Rattle.locks.proofs.Standing.{place_is}
+use Rattle.control.proofs.Opened.{spotted}
 use Rattle.control.proofs.controller.Controller.spot.Goals as goal
 
-pub returns-in-Some : goal.returns-in-Some
-returns-in-Some g c =
-    let cs = (model_of c.args.self.now.port.now).conditions in
-    let at = sym c.in-Some.ensures in
-    record {
-      offer = sym c.offers.ensures ∙ c.if-not-offers.false;
-      at = at;
-      inside = (place_is cs c.args.marks c.in-Some.c at).0;
-    }
+pub returns : goal.returns
+returns g c =
+    let self = c.args.self.now in
+    spotted g.C.CostModel.model g.C.CostModel.exact self.terms.port.now self.terms.policy self.stage c.args.marks c.args.request
+    (sym c.offers.ensures ∙ c.if-not-offers.false) c.condition_of.result c.condition_of.ensures c.ok_or.result c.ok_or.ensures.value

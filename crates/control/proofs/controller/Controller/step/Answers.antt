@@ -1,22 +1,16 @@
 use Rattle.std.proofs.Common.{refl}
 use Rattle.port.specs.Model.{model_of}
 use Rattle.histories.specs.declared.Command.TheVariants.{Step}
-use Rattle.control.specs.States.{state, step_answer}
-use Rattle.control.specs.Worlds.{world}
+use Rattle.control.specs.Controllers.{beside}
+use Rattle.control.specs.States.{step_answer}
+use Rattle.control.specs.Worlds.{terms_world}
 use Rattle.control.proofs.Done.{did_own}
 use Rattle.control.proofs.controller.Controller.step.Goals as goal
 
-pub returns : goal.returns
-returns g c =
+pub returns-clause-did : goal.returns-clause-did
+returns-clause-did g c = λ own.
     let self = c.args.self.now in
-    let p = self.port.now in
-    let e = g.C.CostModel.exact in
-    let here = state self.stage self.out in
-    record {
-      home = c.work_on.ensures.home;
-      does = c.work_on.ensures.does;
-      did = λ own.
-          did_own e (world g.C.CostModel.model e p self.policy) (model_of p) p.conditions_rise refl (g.L.Lock.home c.args.lock.now) own
-          (here (g.L.Lock.present c.args.lock.now)) (Step c.args.grant.now.request) (step_answer c.work_on.result)
-          (here (g.L.Lock.present c.work_on.new.lock)) c.work_on.ensures.does;
-    }
+    let p = self.terms.port.now in
+    did_own g.C.CostModel.exact (terms_world g.C.CostModel.model g.C.CostModel.exact self.terms) (model_of p) p.conditions_rise refl
+    (g.L.Lock.home c.args.lock.now) own (beside self (g.L.Lock.present c.args.lock.now)) (Step c.args.grant.now.request)
+    (step_answer c.work_on.result) (beside self (g.L.Lock.present c.work_on.new.lock)) c.work_on.ensures.does

@@ -1,0 +1,29 @@
+-- What each call does, told of a controller.
+use Rattle.std.specs.Prelude.{ℕ, List}
+use Rattle.port.specs.Model.{model_of}
+use Rattle.port.specs.Model.{Model as PortModel}
+use Rattle.costs.specs.Costs.{Model}
+use Rattle.histories.specs.declared.Command.{Command}
+use Rattle.histories.specs.Calls.{At}
+use Rattle.control.specs.declared.controller.Controller.{Controller}
+use Rattle.control.specs.Worlds.{terms_world}
+use Rattle.control.specs.States.{Answer, State, state, at_of, Ruled, Does, Did}
+
+-- Where a controller is beside a lock with these marks, and the same by the condition that they are in the controller's port.
+abbrev pub beside : {X K : Type 0} → Controller X K → ℕ → State
+beside a m = state a.stage a.out m
+
+abbrev pub at_in : {X K : Type 0} → Controller X K → ℕ → At
+at_in a m = at_of (model_of a.terms.port.now).conditions (beside a m)
+
+-- What a command to a controller comes to, beside a lock with marks m.
+abbrev pub RulesCall : {X K : Type 0} → Model → (K → List ℕ) → Controller X K → ℕ → Command → Answer K → Type 0
+RulesCall k e a m c r = Ruled e (terms_world k e a.terms) (at_in a m) c r
+
+-- A call on controller a over a lock whose port is M leaves controller b, and takes the lock's marks from m to m'.
+abbrev pub DoesCall : {X K : Type 0} → Model → (K → List ℕ) → PortModel → Controller X K → ℕ → Command → Answer K → Controller X K → ℕ → Type 0
+DoesCall k e M a m c r b m' = Does e (terms_world k e a.terms) (model_of a.terms.port.now).conditions M (beside a m) c r (beside b m')
+
+-- The call is one of a history, with this answer.
+abbrev pub DidCall : {X K : Type 0} → Model → (K → List ℕ) → Controller X K → ℕ → Command → Answer K → Controller X K → ℕ → Type 0
+DidCall k e a m c r b m' = Did e (terms_world k e a.terms) (at_in a m) c r (at_in b m')
