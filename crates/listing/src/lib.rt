@@ -1,8 +1,6 @@
 // The page of a sheet: which pairs are kept, and the policy under each cost model; or the sheet's fault.
 #![tactic(auto)]
 
-ghost use Rattle.std.specs.Prelude.{◌≡◌, IfOk, vec_len};
-
 mod parts;
 
 use costs::{CostModel, Minutes, MoveCount};
@@ -11,29 +9,22 @@ use port::Port;
 use sheet::{LoadError, load};
 use solver::{Entry, SolveError, Summary, solve};
 use std::alloc::{AllocError, Global};
+use std::fmt::Write;
 
 // The two opening lines.
 fn opening(heap: Global, summary: Summary, pairs: usize) -> Result<String, AllocError> {
-    let kept = summary.kept;
-    let rounds = summary.rounds;
+    let Summary {
+        kept,
+        rounds,
+        start,
+    } = summary;
     let mut out = format!(in heap; "kept {kept} of {pairs} in {rounds} rounds\n")?;
-    let start = summary.start;
     if start == 0 {
-        out.push_str("start kept\n")?;
+        writeln!(out, "start kept")?;
     } else {
-        out.push_str(format!(in heap; "start dropped {start}\n")?.as_str())?;
+        writeln!(out, "start dropped {start}")?;
     }
     Ok(out)
-}
-
-fn zero_costs<C: CostModel>(heap: Global, count: usize) -> Result<Vec<C::Cost>, AllocError>
-    ensures { IfOk result (λ v. vec_len v ≡ count) }
-{
-    let mut costs = Vec::new(heap);
-    for _ in 0..count {
-        costs.push(C::zero())?;
-    }
-    Ok(costs)
 }
 
 // Solves the port under a cost model, and adds its part of the page.
@@ -46,9 +37,9 @@ fn add_model<C: CostModel>(
     let width = port.conditions.len();
     let places = port.requests.len() * width;
     let mut entries = vec![in heap; Entry::None; places]?;
-    let mut costs = zero_costs::<C>(heap, places)?;
+    let mut costs = vec![in heap; C::zero(); places]?;
     let summary = solve::<C>(heap, port, &mut entries, &mut costs, ranks)?;
-    add_part::<C>(heap, width, &entries, &costs, out)?;
+    add_part::<C>(width, &entries, &costs, out)?;
     Ok(summary)
 }
 
@@ -58,7 +49,7 @@ fn port_page(heap: Global, port: &Port) -> Result<String, SolveError> {
     let mut ranks = vec![in heap; 0; pairs]?;
     let mut parts = String::new(heap);
     let summary = add_model::<MoveCount>(heap, port, &mut ranks, &mut parts)?;
-    let _same = add_model::<Minutes>(heap, port, &mut ranks, &mut parts)?;
+    add_model::<Minutes>(heap, port, &mut ranks, &mut parts)?;
     let mut out = opening(heap, summary, pairs)?;
     out.push_str(parts.as_str())?;
     Ok(out)
@@ -68,10 +59,7 @@ fn port_page(heap: Global, port: &Port) -> Result<String, SolveError> {
 pub fn page(heap: Global, sheet: &[u8]) -> Result<String, AllocError> {
     let mut port = Port::new(heap)?;
     match load(&mut port, heap, sheet) {
-        Ok(()) => match port_page(heap, &port) {
-            Ok(text) => Ok(text),
-            Err(_) => Err(AllocError),
-        },
+        Ok(()) => port_page(heap, &port).map_err(|_| AllocError),
         Err(LoadError::Memory) => Err(AllocError),
         Err(fault) => format!(in heap; "{fault}\n"),
     }

@@ -1,57 +1,49 @@
 // One part of a page: the name of a cost model, and a line for each request and condition.
-ghost use Rattle.std.specs.Prelude.{◌<◌, ◌≤◌, length};
+ghost use Rattle.std.specs.Prelude.{◌<◌};
 
 use costs::{CostModel, Named};
 use solver::Entry;
-use std::alloc::{AllocError, Global};
+use std::alloc::AllocError;
+use std::fmt::Write;
 
 // The columns of a cost.
-fn add_columns<C: CostModel>(
-    heap: Global,
-    cost: C::Cost,
-    out: &mut String,
-) -> Result<(), AllocError> {
+fn add_columns<C: CostModel>(cost: C::Cost, out: &mut String) -> Result<(), AllocError> {
     for i in 0..C::COLUMNS {
         let column = C::column(cost, i);
-        let text = format!(in heap; " {column}")?;
-        out.push_str(text.as_str())?;
+        write!(out, " {column}")?;
     }
     Ok(())
 }
 
-// An entry, with its cost where there is work.
-fn add_entry<C: CostModel>(
-    heap: Global,
-    entry: Entry,
-    cost: C::Cost,
+// The lines of a request, one for each condition: an entry, with its cost where there is work.
+fn add_request<C: CostModel>(
+    request: usize,
+    entries: &[Entry],
+    costs: &[C::Cost],
     out: &mut String,
 ) -> Result<(), AllocError> {
-    let text = format!(in heap; "{entry}")?;
-    out.push_str(text.as_str())?;
-    if let Entry::Work(_) = entry {
-        add_columns::<C>(heap, cost, out)?;
+    for (condition, (entry, cost)) in entries.iter().zip(costs).enumerate() {
+        write!(out, "{request} {condition} {entry}")?;
+        if let Entry::Work(_) = entry {
+            add_columns::<C>(*cost, out)?;
+        }
+        writeln!(out)?;
     }
-    out.push_str("\n")
+    Ok(())
 }
 
 pub(crate) fn add_part<C: CostModel>(
-    heap: Global,
     width: usize,
     entries: &[Entry],
     costs: &[C::Cost],
     out: &mut String,
 ) -> Result<(), AllocError>
-    requires width { 0 < width }
-    requires costs { length entries.now ≤ length costs.now }
+    requires { 0 < width }
 {
-    out.push_str(C::NAME)?;
-    out.push_str("\n")?;
-    for (i, entry) in entries.iter().enumerate() {
-        let request = i / width;
-        let condition = i % width;
-        let place = format!(in heap; "{request} {condition} ")?;
-        out.push_str(place.as_str())?;
-        add_entry::<C>(heap, *entry, costs[i], out)?;
+    let name = C::NAME;
+    writeln!(out, "{name}")?;
+    for (request, (entries, costs)) in entries.chunks(width).zip(costs.chunks(width)).enumerate() {
+        add_request::<C>(request, entries, costs, out)?;
     }
     Ok(())
 }

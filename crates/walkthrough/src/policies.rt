@@ -1,37 +1,41 @@
 // Solves a port, and prints its ranks and its policy.
+ghost use Rattle.std.specs.Prelude.{◌<◌};
+
 use costs::{CostModel, Named};
 use port::Port;
 use solver::{Entry, SolveError, Summary, solve};
-use std::alloc::{AllocError, Global};
 
-fn zero_costs<C: CostModel>(heap: Global, count: usize) -> Result<Vec<C::Cost>, AllocError> {
-    let mut costs = Vec::new(heap);
-    for _ in 0..count {
-        costs.push(C::zero())?;
-    }
-    Ok(costs)
-}
-
-// The ranks, a line for each stage.
-fn show_ranks(rt: &HostRuntime, width: usize, ranks: &[u16]) -> anyhow::Result<()> {
-    for (i, rank) in ranks.iter().enumerate() {
-        if width > 0 {
-            let stage = i / width;
-            let condition = i % width;
-            println!(rt; "  stage {stage} condition {condition} rank {rank}")?;
-        }
+// The ranks of a stage, a line for each condition.
+fn show_stage(rt: &HostRuntime, stage: usize, ranks: &[u16]) -> anyhow::Result<()> {
+    for (condition, rank) in ranks.iter().enumerate() {
+        println!(rt; "  stage {stage} condition {condition} rank {rank}")?;
     }
     Ok(())
 }
 
-fn show_entries(rt: &HostRuntime, width: usize, entries: &[Entry]) -> anyhow::Result<()> {
-    for (i, entry) in entries.iter().enumerate() {
-        if width > 0 {
-            let request = i / width;
-            let condition = i % width;
-            let byte = entry.byte();
-            println!(rt; "  request {request} condition {condition} entry {byte}: {entry}")?;
-        }
+// The entries of a request, a line for each condition.
+fn show_request(rt: &HostRuntime, request: usize, entries: &[Entry]) -> anyhow::Result<()> {
+    for (condition, entry) in entries.iter().enumerate() {
+        let byte = entry.byte();
+        println!(rt; "  request {request} condition {condition} entry {byte}: {entry}")?;
+    }
+    Ok(())
+}
+
+// The ranks by stage, and the entries by request.
+fn show_tables(
+    rt: &HostRuntime,
+    width: usize,
+    ranks: &[u16],
+    entries: &[Entry],
+) -> anyhow::Result<()>
+    requires { 0 < width }
+{
+    for (stage, row) in ranks.chunks(width).enumerate() {
+        show_stage(rt, stage, row)?;
+    }
+    for (request, row) in entries.chunks(width).enumerate() {
+        show_request(rt, request, row)?;
     }
     Ok(())
 }
@@ -39,10 +43,11 @@ fn show_entries(rt: &HostRuntime, width: usize, entries: &[Entry]) -> anyhow::Re
 // What a solve answered.
 fn show_answer(rt: &HostRuntime, answer: Result<Summary, SolveError>) -> anyhow::Result<()> {
     match answer {
-        Ok(summary) => {
-            let (kept, rounds, start) = (summary.kept, summary.rounds, summary.start);
-            println!(rt; "  kept {kept}, rounds {rounds}, start rank {start}")?;
-        }
+        Ok(Summary {
+            kept,
+            rounds,
+            start,
+        }) => println!(rt; "  kept {kept}, rounds {rounds}, start rank {start}")?,
         Err(error) => match error.number() {
             Some(number) => println!(rt; "  refused {number}")?,
             None => println!(rt; "  no memory")?,
@@ -58,7 +63,7 @@ pub(crate) fn show_policy<C: CostModel>(rt: &HostRuntime, port: &Port) -> anyhow
     let places = port.requests.len() * width;
     let pairs = port.header.stages as usize * width;
     let mut entries = vec![in heap; Entry::None; places]?;
-    let mut costs = zero_costs::<C>(heap, places)?;
+    let mut costs = vec![in heap; C::zero(); places]?;
     let mut ranks = vec![in heap; 0; pairs]?;
     let mut short = vec![in heap; 0; 3]?;
     let name = C::NAME;
@@ -72,6 +77,5 @@ pub(crate) fn show_policy<C: CostModel>(rt: &HostRuntime, port: &Port) -> anyhow
         rt,
         solve::<C>(heap, port, &mut entries, &mut costs, &mut ranks),
     )?;
-    show_ranks(rt, width, &ranks)?;
-    show_entries(rt, width, &entries)
+    show_tables(rt, width, &ranks, &entries)
 }
