@@ -10,7 +10,7 @@ use port::{Move, Port};
 use solver::{Entry, SolveError, Summary, solve};
 use std::alloc::Global;
 
-#[derive(Clone, Copy)]
+#[derive(Clone, Copy, Debug, PartialEq, Eq, PartialOrd, Ord)]
 pub struct Fare {
     pub total: u32,
 }
@@ -48,7 +48,7 @@ impl CostModel for Toll {
     }
 
     fn less(a: Fare, b: Fare) -> bool {
-        a.total < b.total
+        a < b
     }
 
     fn column(c: Fare, i: usize) -> u32 {

@@ -22,9 +22,6 @@ module _ {K : Type 0} (e : K → List ℕ) (w : World) (cs : List ℕ) (M : Mode
   course_more [] a t c d = (c, subst (λ (x : State). Does e w cs M x t.command t.answer t.after) c d, refl)
   course_more (x ∷ ts) a t c d = (c.0, c.1, course_more ts x.after t c.2 d)
 
-  pub logged_none : (a : State) → Logged e w cs M a [] [] a
-  logged_none a = record { turns = []; asked = refl; answered = refl; chained = refl }
-
   pub logged_more : (a b d : State) (ks : List Command) (rs : List (Answer K)) (k : Command) (r : Answer K) →
       Logged e w cs M a ks rs b → Does e w cs M b k r d → Logged e w cs M a (ks ++ (k ∷ [])) (rs ++ (r ∷ [])) d
   logged_more a b d ks rs k r l does =

@@ -13,8 +13,7 @@ use Rattle.solver.specs.Policy.{World}
 use Rattle.costs.specs.Costs.{Model as CostsOf}
 use Rattle.histories.specs.declared.Command.{Command}
 use Rattle.histories.specs.declared.Command.TheVariants.{Step}
-use Rattle.histories.specs.Calls.{Answer as Told}
-use Rattle.histories.specs.Calls.{At, Passes, refusal, rules, entry_at, stuck, Took, quoted, granted, worked, closed, refused}
+use Rattle.histories.specs.Calls.{Passes, rules, entry_at, stuck, quoted, granted, worked, closed, refused}
 use Rattle.histories.proofs.Basics.{some_inj, not_false, passes_clear}
 use Rattle.control.specs.declared.answer.Reply.{Reply}
 use Rattle.control.specs.declared.answer.Reply.TheVariants.{Quoted, Granted, Worked, Closed}

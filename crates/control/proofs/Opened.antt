@@ -30,17 +30,7 @@ module _ {K : Type 0} (k : Model) (e : K → List ℕ) (p : Port) (t : Policy K)
   abbrev room : Bool
   room = enough (domain_of (model_of p)) t.entries.now t.costs.now t.ranks.now
 
-  -- a table is too short
-  pub refused_short : room ≡ false → refusal (opening_rules k e p t m) ≡ Some 12
-  refused_short r = stops (opening_rules k e p t m) 12 (inl (ap not r, refl))
-
   module _ (m₀ : ℕ) (same : m₀ ≡ m) (fits : room ≡ true) where
-    -- the lock's marks are no condition
-    pub refused_nowhere : None ≡ place_in p m₀ → refusal (opening_rules k e p t m) ≡ Some 23
-    refused_nowhere at =
-        let here : place_in p m ≡ None = ap (place_in p) (sym same) ∙ sym at in
-        stops (opening_rules k e p t m) 23 (inr (ap not fits, inl (ap (λ (x : Option ℕ). not (placed w x)) here, refl)))
-
     module _ (c : ℕ) (at : Some c ≡ place_in p m₀) (r : ℕ) (read : r ≡ get_or t.ranks.now (s * length (model_of p).conditions + c) 0) where
       here : place_in p m ≡ Some c
       here = ap (place_in p) (sym same) ∙ sym at

@@ -1,42 +1,19 @@
 -- What an outing comes to, from what its parts promise.
-use Rattle.std.proofs.Common.{◌≡◌, ℕ, ◌*◌, Bool, true, cond, not, leb, List, length, Some, None, Option, vec_len, sym, refl, ap, ◌∙◌, subst, arith, le→leb}
+use Rattle.std.proofs.Common.{◌≡◌, ℕ, List, None, Option, sym, refl, ◌∙◌, subst}
 use Rattle.port.specs.Model.{model_of}
 use Rattle.port.specs.Model.{Model as PortModel}
 use Rattle.port.specs.declared.held.Port.{Port}
-use Rattle.plans.specs.Domains.{domain_of}
 use Rattle.costs.specs.Costs.{Model, Laws}
 use Rattle.solver.specs.declared.Entry.{Entry}
 use Rattle.solver.specs.Policy.{Solved}
-use Rattle.solver.specs.Solving.{enough}
 use Rattle.histories.specs.declared.Command.{Command}
-use Rattle.histories.specs.Calls.{refusal, open_rules}
-use Rattle.histories.proofs.Basics.{is_true, true_and}
+use Rattle.histories.specs.Calls.{refusal}
 use Rattle.control.specs.declared.policy.Policy.{Policy}
-use Rattle.control.specs.declared.refusal.Refusal.{Refusal}
-use Rattle.control.specs.Numbers.{refusal_number}
 use Rattle.control.specs.States.{Answer, State, state}
-use Rattle.control.specs.Outings.{Ready, Stocked, Logged, ShowsAll, Outed, Told, Barred}
+use Rattle.control.specs.Outings.{Ready, Stocked, Logged, ShowsAll, Outed, Told}
 use Rattle.control.specs.Worlds.{opening_rules, world, place_in}
 use Rattle.control.proofs.Courses.{retold}
 use Rattle.control.proofs.Opened.{opens_in, promises, opening}
-use Rattle.control.proofs.Requests.{count_tasks}
-
--- tables of these lengths have room for the port
-pub roomy : {K : Type 0} (p : Port) (entries : List Entry) (costs : List K) (ranks : List ℕ) →
-    length entries ≡ vec_len p.requests * vec_len p.conditions → length costs ≡ vec_len p.requests * vec_len p.conditions →
-    length ranks ≡ p.header.stages * vec_len p.conditions → enough (domain_of (model_of p)) entries costs ranks ≡ true
-roomy p entries costs ranks a b c =
-    let D = domain_of (model_of p) in
-    let rows : length D.tasks ≡ vec_len p.requests = omega (arith, count_tasks p, p.requests.ok.0) in
-    let wide : D.conditions ≡ vec_len p.conditions = omega (arith, p.conditions.ok.0) in
-    let places : length D.tasks * D.conditions ≡ vec_len p.requests * vec_len p.conditions =
-    ap (λ (x : ℕ). x * D.conditions) rows ∙ ap (λ (x : ℕ). vec_len p.requests * x) wide in
-    let pairs : D.stages * D.conditions ≡ p.header.stages * vec_len p.conditions = ap (λ (x : ℕ). D.stages * x) wide in
-    true_and _ _ (fits (length D.tasks * D.conditions) (length entries) (places ∙ sym a))
-    (true_and _ _ (fits (length D.tasks * D.conditions) (length costs) (places ∙ sym b)) (fits (D.stages * D.conditions) (length ranks) (pairs ∙ sym c)))
-  where
-    fits : (x y : ℕ) → x ≡ y → leb x y ≡ true
-    fits x y e = is_true _ (le→leb x y (omega (arith, e)))
 
 module _ {K : Type 0} (k : Model) (e : K → List ℕ) (p : Port) (t : Policy K) (sv : Solved (world k e p t)) where
   ready : Ready (model_of p) k (world k e p t)
@@ -70,17 +47,6 @@ module _ {K : Type 0} (k : Model) (e : K → List ℕ) (p : Port) (t : Policy K)
             ends = refl;
             promise = promises k e p t m laws opens sv h.history _ h.chained;
           }
-
-  pub barred : enough (domain_of (model_of p)) t.entries.now t.costs.now t.ranks.now ≡ true → (m : ℕ) (r : Refusal) →
-      refusal (opening_rules k e p t m) ≡ Some (refusal_number r) → Barred k (model_of p) m m r
-  barred room m r d =
-      record {
-        world = world k e p t;
-        ready = ready;
-        refused = sym (ap (λ (b : Bool). cond (not b) (Some 12) (refusal (open_rules (world k e p t) p.header.stage (place_in p m)))) room) ∙ d;
-        kept = opening k e p t m sv;
-        stays = refl;
-      }
 
 -- a log of a controller that was opened with these terms
 pub logged_there : {K : Type 0} (k : Model) (e : K → List ℕ) (p' p : Port) (t' t : Policy K) (M : PortModel) (s' s : ℕ) (o' o : Option ℕ) →

@@ -1,5 +1,5 @@
 -- Reading a port's requests.
-use Rattle.std.proofs.Common.{◌≡◌, ℕ, ◌<◌, ◌≤◌, Bool, true, false, ◌&&◌, eqb, ltb, List, map, length, get_or, None, Some, Option, MatchOption, Bor, vec_items, sym, refl, ap, ◌∙◌, arith, ltb→lt, lt→ltb}
+use Rattle.std.proofs.Common.{◌≡◌, ℕ, ◌<◌, ◌≤◌, Bool, true, false, ◌&&◌, eqb, ltb, map, length, get_or, None, Some, Option, MatchOption, Bor, vec_items, sym, refl, ap, ◌∙◌, arith, ltb→lt, lt→ltb}
 use Rattle.std.proofs.lemmas.List.{get_or-map, length-map, get_or_past}
 use Rattle.std.specs.List.{ItemBy}
 use Rattle.port.specs.Model.{model_of, request_model}

@@ -46,10 +46,7 @@ impl<'a, C: CostModel> Terms<'a, C> {
     pub(crate) fn target(&self, request: u8) -> u8
         ensures { result ≡ (task_at (domain_of (model_of self.now.port.now)) request).to }
     {
-        self.port
-            .requests
-            .get(request as usize)
-            .map_or(0, |r| r.to)
+        self.port.requests.get(request as usize).map_or(0, |r| r.to)
     }
 
     // The place in a table that has a row for each request or stage, and a column for each condition.
@@ -73,20 +70,14 @@ impl<'a, C: CostModel> Terms<'a, C> {
     pub(crate) fn cost(&self, request: u8, condition: u8) -> C::Cost
         ensures { C.exact result ≡ (terms_world C.model C.exact self.now).cost request condition }
     {
-        self.policy
-            .costs
-            .get(self.place(request, condition))
-            .copied()
-            .unwrap_or(C::zero())
+        let place = self.place(request, condition);
+        self.policy.costs.get(place).copied().unwrap_or(C::zero())
     }
 
     pub(crate) fn rank(&self, stage: u8, condition: u8) -> u16
         ensures { result ≡ (terms_world C.model C.exact self.now).rank stage condition }
     {
-        self.policy
-            .ranks
-            .get(self.place(stage, condition))
-            .copied()
-            .unwrap_or(0)
+        let place = self.place(stage, condition);
+        self.policy.ranks.get(place).copied().unwrap_or(0)
     }
 }

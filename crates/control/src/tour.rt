@@ -8,8 +8,8 @@ ghost use Rattle.control.specs.declared.tour.OutingError.TheVariants.{Memory, Re
 
 use crate::answer::Answer;
 use crate::controller::Controller;
-use crate::refusal::Refusal;
 use crate::owned::solved;
+use crate::refusal::Refusal;
 use costs::CostModel;
 use histories::Command;
 use locks::Lock;
@@ -41,12 +41,7 @@ impl From<Refusal> for OutingError {
 
 impl<'a, C: CostModel> Controller<'a, C> {
     // Carries out commands, one after another, and logs the answer to each.
-    fn run<L: Lock>(
-        &mut self,
-        commands: &[Command],
-        lock: &mut L,
-        log: &mut Vec<Answer<C::Cost>>,
-    )
+    fn run<L: Lock>(&mut self, commands: &[Command], lock: &mut L, log: &mut Vec<Answer<C::Cost>>)
         requires empty { log.old.items ≡ [] }
         requires room { length commands.now ≤ vec_capacity log.old }
         ensures home { L.home lock.new ≡ L.home lock.old }

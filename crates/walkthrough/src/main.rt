@@ -7,14 +7,18 @@ mod sheets;
 use costs::{Minutes, MoveCount};
 use listing::page;
 use policies::show_policy;
-use port::Port;
+use port::{Header, Port};
 use sheet::load;
 use sheets::{LOW_STAITHE, MISSPELT};
 
 // What a port holds, in counts.
 fn show_port(rt: &HostRuntime, port: &Port) -> anyhow::Result<()> {
-    let header = port.header;
-    let (marks, operations, stages) = (header.marks, header.operations, header.stages);
+    let Header {
+        marks,
+        operations,
+        stages,
+        ..
+    } = port.header;
     let conditions = port.conditions.len();
     let moves = port.moves.len();
     let requests = port.requests.len();
