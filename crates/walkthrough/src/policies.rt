@@ -43,11 +43,13 @@ fn show_tables(
 // What a solve answered.
 fn show_answer(rt: &HostRuntime, answer: Result<Summary, SolveError>) -> anyhow::Result<()> {
     match answer {
-        Ok(Summary {
-            kept,
-            rounds,
-            start,
-        }) => println!(rt; "  kept {kept}, rounds {rounds}, start rank {start}")?,
+        Ok(
+            Summary {
+                kept,
+                rounds,
+                start,
+            },
+        ) => println!(rt; "  kept {kept}, rounds {rounds}, start rank {start}")?,
         Err(error) => match error.number() {
             Some(number) => println!(rt; "  refused {number}")?,
             None => println!(rt; "  no memory")?,
