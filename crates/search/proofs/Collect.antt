@@ -1,6 +1,6 @@
 -- What `map` over a range and `collect` give, item by item.
-use Rattle.std.proofs.Common.{◌≡◌, ℕ, ◌+◌, ◌-◌, ◌<◌, Bool, true, List, length, get_or, Some, None, Option, sym, refl, ap, ◌∙◌, subst, arith}
-use Rattle.std.specs.Iterator.Runs.{Run, EachRunFrom, SomeRun, WholeRun, IsMapRun, CallKeepsClosure}
+use Rattle.std.proofs.Common.{◌≡◌, ℕ, ◌+◌, ◌-◌, ◌<◌, true, length, get_or, Some, None, Option, ap, ◌∙◌, subst, arith}
+use Rattle.std.specs.Iterator.Runs.{Run, EachRunFrom, SomeRun, IsMapRun}
 use Rattle.std.specs.Option.{IfSome, IsSomeAnd, option_map}
 use Rattle.std.proofs.iter.Yields.{nat_range_steps}
 use Rattle.std.proofs.iter.runs.Sources.{range_runs}

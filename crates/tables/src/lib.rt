@@ -63,7 +63,9 @@ pub fn least<C: CostModel>(offers: &[Option<C::Cost>]) -> Option<Label<C::Cost>>
 {
     let mut best = None;
     for (condition, &offer) in offers.iter().enumerate() {
-        if let Some(cost) = offer && is_better::<C>(cost, best) {
+        if let Some(cost) = offer
+            && is_better::<C>(cost, best)
+        {
             best = Some(Label { condition, cost });
         }
     }

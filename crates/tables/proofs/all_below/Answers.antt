@@ -19,4 +19,4 @@ pub returns : goal.returns
 returns g c =
     let k = g.C.CostModel in
     decided (λ m. under_of k.model (looked k.exact c.args.costs.now m.outcome) (Some (k.exact c.args.cost))) c.args.moves.now c.all.result
-        (cases_from_all _ _ _ (λ m. under_of k.model (looked k.exact c.args.costs.now m.outcome) (Some (k.exact c.args.cost)) ≡ true) (λ m. under_of k.model (looked k.exact c.args.costs.now m.outcome) (Some (k.exact c.args.cost)) ≡ false) c.all.ensures.ran (YieldsList-from_slice c.args.moves.now cc) (λ x q k. search (rules, tests)) (λ x q k. search (rules, tests)))
+    (cases_from_all _ _ _ (λ m. under_of k.model (looked k.exact c.args.costs.now m.outcome) (Some (k.exact c.args.cost)) ≡ true) (λ m. under_of k.model (looked k.exact c.args.costs.now m.outcome) (Some (k.exact c.args.cost)) ≡ false) c.all.ensures.ran (YieldsList-from_slice c.args.moves.now cc) (λ x q k. search (rules, tests)) (λ x q k. search (rules, tests)))

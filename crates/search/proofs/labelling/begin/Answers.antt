@@ -11,6 +11,6 @@ returns g c =
     let k = g.C.CostModel in
     let P : ℕ → Option g.row.C-Cost.Denot → Type 0 = λ i x. shown k.exact x ≡ start k.model (has c.args.goal.now) i in
     IfOk-weaker c.collect.result _ _ (λ v h.
-        let p = h tt in
-        let made = each_made c.args.conditions P c.map.ensures.runs (λ x y q called. search rules) p.0 p.1 p.2 in
-        (ap length p.3.0 ∙ made.0, λ i l. subst (λ t. P i (get_or t i None)) (sym p.3.0) (made.1 i None l))) c.collect.ensures.runs
+    let p = h tt in
+    let made = each_made c.args.conditions P c.map.ensures.runs (λ x y q called. search rules) p.0 p.1 p.2 in
+    (ap length p.3.0 ∙ made.0, λ i l. subst (λ t. P i (get_or t i None)) (sym p.3.0) (made.1 i None l))) c.collect.ensures.runs

@@ -1,4 +1,4 @@
-use Rattle.std.proofs.Common.{◌≡◌, ℕ, suc, ◌-◌, ◌<◌, length, set, Some, None, vec_items, vec_len, sym, refl, ap, ◌∙◌, subst, arith}
+use Rattle.std.proofs.Common.{◌≡◌, ℕ, ◌-◌, ◌<◌, length, set, Some, None, vec_items, sym, refl, ap, ◌∙◌, subst, arith}
 use Rattle.std.specs.Vec.{with_item, with_items}
 use Rattle.std.proofs.lemmas.List.{length-set, with_items_is}
 use Rattle.search.specs.Labels.{Few, Offered, done}
@@ -8,7 +8,7 @@ use Rattle.index.specs.Indexed.{count_of, moves_of, port_of}
 use Rattle.search.specs.Steps.{AllOffered, State, start}
 use Rattle.index.proofs.Bounds.{index_timely, index_within}
 use Rattle.costs.proofs.Order.{weaken}
-use Rattle.search.proofs.Steps.{final_start, few_start, few_all, above_start, d_within, few_next, rest_next, state_next, settled}
+use Rattle.search.proofs.Steps.{final_start, few_start, few_all, above_start, few_next, rest_next, state_next, settled}
 use Rattle.search.proofs.Tables.{done_most}
 use Rattle.search.proofs.labelling.solve.Goals as goal
 
@@ -98,9 +98,9 @@ renew-requires g c =
     let ov = c.deref_mut.ensures.value in
     let all : length c.deref_mut.result.now ≡ n = ap length ov ∙ length-set offers b.condition None ∙ state.offers_sized in
     λ d l apart.
-        subst (λ t. Offered k.model ms keep (looked k.exact t) d (looked k.exact c.deref_mut.result.now d)) (sym cv)
-        (subst (λ t. Offered k.model ms keep (looked k.exact new) d (looked k.exact t d)) (sym ov)
-        (rest_next laws k.exact g.met.C.CostModel.sized ms keep goal n within timely costs offers state b low d (subst (λ m. d < m) all l) apart))
+    subst (λ t. Offered k.model ms keep (looked k.exact t) d (looked k.exact c.deref_mut.result.now d)) (sym cv)
+    (subst (λ t. Offered k.model ms keep (looked k.exact new) d (looked k.exact t d)) (sym ov)
+    (rest_next laws k.exact g.met.C.CostModel.sized ms keep goal n within timely costs offers state b low d (subst (λ m. d < m) all l) apart))
 
 pub loop-label-smaller : goal.loop-label-smaller
 loop-label-smaller g c =

@@ -14,8 +14,8 @@ worst-requires g c =
     let cs = c.args.costs.now in
     let after : FewBelow k.model k.exact 255 cs (k.exact c.args.cost) → FewAfter k.model k.exact 255 cs c.args.moves.now =
     λ few m a h q.
-        let below = c.all_below.ensures.0 c.if-all_below.true m h in
-        few m.outcome a q (not_true _ (subst (λ x. under_of k.model (shown k.exact x) (Some (k.exact c.args.cost)) ≡ true) q below)) in
+    let below = c.all_below.ensures.0 c.if-all_below.true m h in
+    few m.outcome a q (not_true _ (subst (λ x. under_of k.model (shown k.exact x) (Some (k.exact c.args.cost)) ≡ true) q below)) in
     ∥∥₁_map c.requires after
 
 pub returns-then-all_below : goal.returns-then-all_below

@@ -15,6 +15,6 @@ returns g c =
     let cs = c.args.self.now.costs.now in
     let P : ℕ → Choice g.row.C-Cost.Denot → Type 0 = λ i x. Picked k.model k.exact (moves_of c.args.self.now.index.now) (looked k.exact cs) (has c.args.self.now.goal.now) i x in
     IfOk-weaker c.collect.result _ _ (λ v h.
-        let p = h tt in
-        let made = each_made (length cs) P c.map.ensures.runs (λ x y q called. search rules) p.0 p.1 p.2 in
-        (ap length p.3.0 ∙ made.0, λ i l. subst (λ t. P i (get_or t i None)) (sym p.3.0) (made.1 i None l))) c.collect.ensures.runs
+    let p = h tt in
+    let made = each_made (length cs) P c.map.ensures.runs (λ x y q called. search rules) p.0 p.1 p.2 in
+    (ap length p.3.0 ∙ made.0, λ i l. subst (λ t. P i (get_or t i None)) (sym p.3.0) (made.1 i None l))) c.collect.ensures.runs
