@@ -35,6 +35,13 @@ pub trait CostModel: Named {
     fn less(a: Self::Cost, b: Self::Cost) -> bool
         ensures { result ≡ not (model.within (exact b) (exact a)) };
 
+    // `COLUMNS`, for a caller that wants a value.
+    final fn column_count() -> usize
+        ensures { result ≡ model.columns }
+    {
+        Self::COLUMNS
+    }
+
     // The number in column `i` of a cost: past the last, 0.
     fn column(c: Self::Cost, i: usize) -> u32
         ensures { result ≡ slice_index (exact c) i };
