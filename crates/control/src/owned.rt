@@ -5,7 +5,7 @@ ghost use Rattle.control.specs.Outings.{Stocked};
 use crate::policy::Policy;
 use costs::CostModel;
 use port::Port;
-use solver::{Entry, SolveError, solve};
+use solver::{Entry, SolveError, pair_count, place_count, solve};
 use std::alloc::{AllocError, Global};
 
 // The tables that solving a port fills.
@@ -37,11 +37,10 @@ pub(crate) fn solved<C: CostModel>(
 ) -> Result<OwnedPolicy<C::Cost>, AllocError>
     ensures { IfOk result (λ t. Stocked C.model C.exact port.now t.entries.items t.costs.items t.ranks.items) }
 {
-    let width = port.conditions.len();
-    let places = port.requests.len() * width;
+    let places = place_count(port);
     let mut entries = vec![in heap; Entry::None; places]?;
     let mut costs = vec![in heap; C::zero(); places]?;
-    let mut ranks = vec![in heap; 0; port.header.stages as usize * width]?;
+    let mut ranks = vec![in heap; 0; pair_count(port)]?;
     match solve::<C>(heap, port, &mut entries, &mut costs, &mut ranks) {
         Ok(_) => Ok(OwnedPolicy {
             entries,

@@ -7,7 +7,7 @@ use costs::{CostModel, Minutes, MoveCount};
 use parts::add_part;
 use port::Port;
 use sheet::{LoadError, load};
-use solver::{Entry, SolveError, Summary, solve};
+use solver::{Entry, SolveError, Summary, pair_count, place_count, solve};
 use std::alloc::{AllocError, Global};
 use std::fmt::Write;
 
@@ -34,18 +34,17 @@ fn add_model<C: CostModel>(
     ranks: &mut [u16],
     out: &mut String,
 ) -> Result<Summary, SolveError> {
-    let width = port.conditions.len();
-    let places = port.requests.len() * width;
+    let places = place_count(port);
     let mut entries = vec![in heap; Entry::None; places]?;
     let mut costs = vec![in heap; C::zero(); places]?;
     let summary = solve::<C>(heap, port, &mut entries, &mut costs, ranks)?;
-    add_part::<C>(width, &entries, &costs, out)?;
+    add_part::<C>(port.conditions.len(), &entries, &costs, out)?;
     Ok(summary)
 }
 
 // The page of a port.
 fn port_page(heap: Global, port: &Port) -> Result<String, SolveError> {
-    let pairs = port.header.stages as usize * port.conditions.len();
+    let pairs = pair_count(port);
     let mut ranks = vec![in heap; 0; pairs]?;
     let mut parts = String::new(heap);
     let summary = add_model::<MoveCount>(heap, port, &mut ranks, &mut parts)?;

@@ -9,7 +9,7 @@ mod policy;
 mod solution;
 mod write;
 
-pub use solution::{has_room, solve};
+pub use solution::{has_room, pair_count, place_count, solve};
 use std::fmt;
 
 // What the policy says for a request in a condition: no plan, stop here, or work this operation.

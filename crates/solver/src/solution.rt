@@ -41,13 +41,25 @@ fn work_out<C: CostModel>(heap: Global, port: &Port) -> Result<Solution<C::Cost>
     Ok(Solution { choices, ranks })
 }
 
+// How many places the port has in a policy: one for each request and condition.
+pub fn place_count(port: &Port) -> usize
+    ensures { result ≡ places_of (domain_of (model_of port.now)) }
+{
+    port.requests.len() * port.conditions.len()
+}
+
+// How many pairs of stage and condition the port has.
+pub fn pair_count(port: &Port) -> usize
+    ensures { result ≡ pairs_of (domain_of (model_of port.now)) }
+{
+    port.header.stages as usize * port.conditions.len()
+}
+
 // Whether buffers of these lengths have room for the port.
 pub fn has_room(port: &Port, entries: usize, costs: usize, ranks: usize) -> bool
     ensures { result ≡ (nat_le (places_of (domain_of (model_of port.now))) entries && (nat_le (places_of (domain_of (model_of port.now))) costs && nat_le (pairs_of (domain_of (model_of port.now))) ranks)) }
 {
-    let width = port.conditions.len();
-    let places = port.requests.len() * width;
-    let pairs = port.header.stages as usize * width;
+    let (places, pairs) = (place_count(port), pair_count(port));
     places <= entries && places <= costs && pairs <= ranks
 }
 

@@ -3,7 +3,7 @@ ghost use Rattle.std.specs.Prelude.{◌<◌};
 
 use costs::{CostModel, Named};
 use port::Port;
-use solver::{Entry, SolveError, Summary, solve};
+use solver::{Entry, SolveError, Summary, pair_count, place_count, solve};
 
 // The ranks of a stage, a line for each condition.
 fn show_stage(rt: &HostRuntime, stage: usize, ranks: &[u16]) -> anyhow::Result<()> {
@@ -50,10 +50,7 @@ fn show_answer(rt: &HostRuntime, answer: Result<Summary, SolveError>) -> anyhow:
                 start,
             },
         ) => println!(rt; "  kept {kept}, rounds {rounds}, start rank {start}")?,
-        Err(error) => match error.number() {
-            Some(number) => println!(rt; "  refused {number}")?,
-            None => println!(rt; "  no memory")?,
-        },
+        Err(error) => println!(rt; "  {error}")?,
     }
     Ok(())
 }
@@ -61,12 +58,10 @@ fn show_answer(rt: &HostRuntime, answer: Result<Summary, SolveError>) -> anyhow:
 // Solves the port, first with a buffer too short for the ranks, then with room for all.
 pub(crate) fn show_policy<C: CostModel>(rt: &HostRuntime, port: &Port) -> anyhow::Result<()> {
     let heap = rt.alloc();
-    let width = port.conditions.len();
-    let places = port.requests.len() * width;
-    let pairs = port.header.stages as usize * width;
+    let places = place_count(port);
     let mut entries = vec![in heap; Entry::None; places]?;
     let mut costs = vec![in heap; C::zero(); places]?;
-    let mut ranks = vec![in heap; 0; pairs]?;
+    let mut ranks = vec![in heap; 0; pair_count(port)]?;
     let mut short = vec![in heap; 0; 3]?;
     let name = C::NAME;
     println!(rt; "solve by {name}, with room for 3 ranks")?;
@@ -79,5 +74,5 @@ pub(crate) fn show_policy<C: CostModel>(rt: &HostRuntime, port: &Port) -> anyhow
         rt,
         solve::<C>(heap, port, &mut entries, &mut costs, &mut ranks),
     )?;
-    show_tables(rt, width, &ranks, &entries)
+    show_tables(rt, port.conditions.len(), &ranks, &entries)
 }
