@@ -31,7 +31,7 @@ pub fn under<C: CostModel>(x: Option<C::Cost>, y: Option<C::Cost>) -> bool
 }
 
 // Whether two costs are one.
-// Stays: a model of one's own gives only `less`, and a derived `==` asked of its costs would ask more of it.
+// Stays: a `PartialEq` of `Cost` would ask more of whoever writes a model.
 fn same<C: CostModel>(a: C::Cost, b: C::Cost) -> bool
     ensures { Decides result (C.exact a ≡ C.exact b) }
 {

@@ -13,8 +13,6 @@ pub trait CostModel: Named {
     type Cost: Copy;
 
     // How many numbers a cost has.
-    ghost COLUMNS: { ℕ };
-
     const COLUMNS: usize;
 
     // The exact costs, and what each `impl` must prove of them.
@@ -35,19 +33,14 @@ pub trait CostModel: Named {
     fn less(a: Self::Cost, b: Self::Cost) -> bool
         ensures { result ≡ not (model.within (exact b) (exact a)) };
 
-    // `COLUMNS`, for a caller that wants a value.
-    final fn column_count() -> usize
-        ensures { result ≡ model.columns }
-    {
-        Self::COLUMNS
-    }
+    // `COLUMNS`, tied to the model.
+    // Stays: a law on `COLUMNS` would ask more of whoever writes a model, whose `COLUMNS` has been free.
+    fn column_count() -> usize
+        ensures { result ≡ model.columns };
 
     // The number in column `i` of a cost: past the last, 0.
     fn column(c: Self::Cost, i: usize) -> u32
         ensures { result ≡ slice_index (exact c) i };
-
-    // As many as the model has columns.
-    ghost columned: { COLUMNS ≡ model.columns };
 
     ghost sized: { (c : Self.Cost) → length (exact c) ≡ model.columns };
 }

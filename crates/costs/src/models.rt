@@ -1,5 +1,5 @@
 // The two cost models that there are.
-ghost use Rattle.std.specs.Prelude.{◌≡◌, ◌+◌, ◌≤◌, refl};
+ghost use Rattle.std.specs.Prelude.{◌≡◌, ◌+◌, ◌≤◌};
 ghost use Rattle.costs.specs.Models.{count_list, count_sized, minutes_laws, minutes_model, moves_laws, moves_model, time_list, time_sized};
 
 use crate::model::{CostModel, Named};
@@ -36,11 +36,7 @@ impl Named for MoveCount {
 impl CostModel for MoveCount {
     type Cost = Count;
 
-    ghost COLUMNS = { 1 };
-
     const COLUMNS: usize = 1;
-
-    ghost columned = { refl };
 
     ghost model = { moves_model };
 
@@ -63,6 +59,10 @@ impl CostModel for MoveCount {
         a < b
     }
 
+    fn column_count() -> usize {
+        Self::COLUMNS
+    }
+
     fn column(c: Count, i: usize) -> u32 {
         match i {
             0 => c.moves,
@@ -78,11 +78,7 @@ impl Named for Minutes {
 impl CostModel for Minutes {
     type Cost = Time;
 
-    ghost COLUMNS = { 2 };
-
     const COLUMNS: usize = 2;
-
-    ghost columned = { refl };
 
     ghost model = { minutes_model };
 
@@ -108,6 +104,10 @@ impl CostModel for Minutes {
 
     fn less(a: Time, b: Time) -> bool {
         a < b
+    }
+
+    fn column_count() -> usize {
+        Self::COLUMNS
     }
 
     fn column(c: Time, i: usize) -> u32 {

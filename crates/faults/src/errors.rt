@@ -14,7 +14,7 @@ pub enum LoadError {
 }
 
 // A fault before the first record.
-// Stays: `From` by hand, as in layers.rt, for its `from_gives`.
+// Stays: as in layers.rt, for its `from_gives`.
 impl From<PortFault> for LoadError {
     ghost from_gives = { λ e r. r ≡ Fault e 0 };
 

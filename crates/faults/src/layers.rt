@@ -45,7 +45,7 @@ pub enum PortFault {
     Start,
 }
 
-// Stays: `From` by hand, since a derived one says nothing in `from_gives`, by which a clause knows what a `?` made.
+// Stays: thiserror would write these, but with nothing in `from_gives`, by which a clause knows what a `?` made.
 impl From<ByteFault> for RecordFault {
     ghost from_gives = { λ e r. r ≡ Byte e };
 

@@ -14,7 +14,7 @@ ghost use Rattle.faults.specs.Faults.{
 
 use crate::layers::{ByteFault, PortFault, RecordFault};
 
-// Stays: `number`, since a refusal is told by its number. It is no discriminant, for a fault that is carried keeps its own.
+// Stays: a rule of the project: a fault is told by its number and the number of its layer, which docs/FORMAT.md has.
 
 // The layers, by their numbers.
 #[derive(Clone, Copy, Debug, PartialEq)]

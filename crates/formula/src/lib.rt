@@ -109,7 +109,7 @@ impl<'a> Spot<'a> {
     }
 
     // Stays: two readers of one form, for products and for sums. One for both would ask at each of its three steps
-    // which it is, or take the step as a closure, through which no cycle of calls is proved.
+    // which of the two it is: which reader is below, which byte stands between, and how two values are joined.
 
     // The longest product from here on: atoms with `&` between them.
     #[cycle(read_atom_read_product_read_sum)]

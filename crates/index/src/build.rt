@@ -15,7 +15,7 @@ fn minutes_of(m: &Move) -> u16
 }
 
 // The minutes of every move are small, as their type says: the loop does nothing but show it.
-// Stays: of a field that is read with no call, the prover knows no range, and so none of the moves of a slice.
+// Stays: tried without the call, by reading the field into a local and by taking each move apart: no range of it is known then.
 fn bound_minutes(moves: &[Move])
     ensures { Timed moves.now }
 {

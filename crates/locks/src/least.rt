@@ -50,7 +50,7 @@ impl<'a> LeastChangeLock<'a> {
     }
 }
 
-// Stays: the other lock has the first four methods too; a struct that both hold would leave each of them a call, no shorter.
+// Stays: beside the other lock, which has the first four methods too, as is said there.
 impl<'a> Lock for LeastChangeLock<'a> {
     ghost home = { λ s. model_of s.port.now };
 

@@ -48,7 +48,8 @@ impl<'a> ScriptedLock<'a> {
     }
 }
 
-// Stays: the other lock has the first four methods too; a struct that both hold would leave each of them a call, no shorter.
+// Stays: the other lock has the first four methods too. One lock for both, generic in how it picks an outcome, would say by a ghost member
+// of the picker what the clauses of `work` say here in plain words: which outcome the byte names.
 impl<'a> Lock for ScriptedLock<'a> {
     ghost home = { λ s. model_of s.port.now };
 

@@ -12,8 +12,8 @@ use faults::{PortFault, RecordFault};
 // The most bytes of a text.
 const TEXT_BYTES: u8 = 63;
 
-// Stays: `present` says whether a field that may be absent is there. A caller that tested it would write the absent
-// value, and the place that stands for it, beside each call.
+// Stays: `present` is what the definitions of a field take too, and each call answers one of them; the same for `next_number` and
+// `next_minutes`, of one byte and of two.
 impl<'a> Reader<'a> {
     // A number of one byte, which is not 0 where it is present.
     pub(crate) fn next_number(&mut self, present: bool) -> Result<u8, RecordFault>

@@ -28,7 +28,7 @@ impl<'a> TextAt<'a> {
     pub(crate) fn check(self, marks: u8) -> Result<(), RecordFault>
         ensures { MatchResult result (λ _. (x : Step (List ℕ)) → judged self.entry.place (verdict marks self.entry.text.bytes.now) x ≡ x) (λ e. (x : Step (List ℕ)) → judged self.entry.place (verdict marks self.entry.text.bytes.now) x ≡ fault (Record e)) }
     {
-        // Stays: a `match`, since the closure of a `map_err` would need clauses of its own for the sum of the places.
+        // Stays: tried with `map_err`, whose closure adds the two places: what the function ensures of the sum did not close.
         match formula::check(self.text.bytes, marks) {
             Ok(()) => Ok(()),
             Err(fault) => Err(RecordFault::Formula(FormulaFault {

@@ -21,6 +21,8 @@ pub enum Record<'a> {
 }
 
 // A request as the sheet has it.
+// Stays: beside `Request`, which owns its texts. One type with the text as a parameter would put that parameter into each definition
+// that speaks of a port's requests.
 #[derive(Clone, Copy)]
 pub struct RequestAt<'a> {
     pub from: u8,
@@ -102,8 +104,8 @@ fn read_head(reader: &mut Reader, draft: &Draft) -> Result<Head, PortFault>
     })
 }
 
-// Stays: the reader, the draft and the head as parameters of each. A struct of the three would be made anew for each
-// record, since the draft grows between two, and no call would be shorter.
+// Stays: the reader, the draft and the head as parameters of each: two are lent, one of them to be changed, and a struct of the three
+// would live for one call.
 
 // A condition: the low and the high byte of its marks.
 fn read_condition(reader: &mut Reader, draft: &Draft, head: Head) -> Result<u16, PortFault>

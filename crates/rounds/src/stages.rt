@@ -7,6 +7,7 @@ use crate::rows::both;
 use std::alloc::{AllocError, Global};
 
 // A stage: rows by condition for its pairs.
+// Stays: rows beside each other, and not a row of pairs, since a goal is made of one of them as a slice of flags.
 #[derive(Drop)]
 pub(crate) struct Stage {
     // The pairs that are left.

@@ -7,10 +7,11 @@ ghost use Rattle.search.specs.Groups.{Same, Splits};
 use port::Move;
 
 // The moves that are left. An item has all of those by the lowest operation.
-// A slice's `chunk_by` gives the same items, but tells of them by its closure, which no loop's invariant can name.
+// Stays: an iterator of one's own. A slice's `chunk_by` gives the same items, but tells of them by its closure, which no invariant of a
+// loop over it can name.
 #[derive(Drop)]
-pub struct Groups<'a> {
-    pub rest: &'a [Move],
+pub(crate) struct Groups<'a> {
+    pub(crate) rest: &'a [Move],
     ghost ordered: { Ordered rest.now },
 }
 

@@ -10,11 +10,11 @@ use tables::{cost_at, item_or};
 
 // Where a search may work and is to end, and what each condition costs, if that is final.
 #[derive(Drop)]
-pub struct Known<'a, 'p, 'c, C: CostModel> {
-    pub index: &'a MoveIndex<'p>,
-    pub keep: &'a [bool],
-    pub goal: &'a [bool],
-    pub costs: &'c [Option<C::Cost>],
+pub(crate) struct Known<'a, 'p, 'c, C: CostModel> {
+    pub(crate) index: &'a MoveIndex<'p>,
+    pub(crate) keep: &'a [bool],
+    pub(crate) goal: &'a [bool],
+    pub(crate) costs: &'c [Option<C::Cost>],
     ghost few: { ∥ Few C.model C.exact 255 costs.now ∥₁ },
 }
 
@@ -47,14 +47,14 @@ impl<C: CostModel> Known<'_, '_, '_, C> {
     }
 
     // What is on offer for each condition.
-    pub fn offers(&self, heap: Global) -> Result<Vec<Option<C::Cost>>, AllocError>
+    pub(crate) fn offers(&self, heap: Global) -> Result<Vec<Option<C::Cost>>, AllocError>
         ensures { IfOk result (λ v. (length v.items ≡ length self.now.costs.now) × AllOffered C.model (moves_of self.now.index.now) (has self.now.keep.now) (length self.now.costs.now) (looked C.exact self.now.costs.now) (looked C.exact v.items)) }
     {
         (0..self.costs.len()).map(|c| self.offer(c)).collect(heap)
     }
 
     // Makes anew what is on offer for each condition from which a move leads to `d`.
-    pub fn renew(&self, offers: &mut [Option<C::Cost>], d: usize)
+    pub(crate) fn renew(&self, offers: &mut [Option<C::Cost>], d: usize)
         requires { (c : ℕ) → c < length offers.old → Apart (moves_of self.now.index.now) c d → Offered C.model (moves_of self.now.index.now) (has self.now.keep.now) (looked C.exact self.now.costs.now) c (looked C.exact offers.old c) }
         ensures { AllOffered C.model (moves_of self.now.index.now) (has self.now.keep.now) (length offers.old) (looked C.exact self.now.costs.now) (looked C.exact offers.new) }
     {
@@ -88,7 +88,7 @@ impl<C: CostModel> Known<'_, '_, '_, C> {
     }
 
     // What to do at each condition.
-    pub fn choices(&self, heap: Global) -> Result<Vec<Choice<C::Cost>>, AllocError>
+    pub(crate) fn choices(&self, heap: Global) -> Result<Vec<Choice<C::Cost>>, AllocError>
         ensures { IfOk result (λ v. AllPicked C.model C.exact (moves_of self.now.index.now) (looked C.exact self.now.costs.now) (has self.now.goal.now) (length self.now.costs.now) v.items) }
     {
         (0..self.costs.len()).map(|c| self.choose(c)).collect(heap)

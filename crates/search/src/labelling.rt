@@ -57,14 +57,15 @@ fn solve<'a, C: CostModel>(
 }
 
 // For each condition the least cost of a plan that works only in conditions of `keep` and ends in one of `goal`, with the lowest operation that begins such a plan.
-pub fn search<'a, C: CostModel>(
+pub fn search<C: CostModel>(
     heap: Global,
-    index: &'a MoveIndex,
-    keep: &'a [bool],
-    goal: &'a [bool],
+    index: &MoveIndex,
+    keep: &[bool],
+    goal: &[bool],
 ) -> Result<Vec<Choice<C::Cost>>, AllocError>
     ensures { IfOk result (λ v. Answers (count_of index.now) C.model C.exact (moves_of index.now) keep.now goal.now v.items) }
 {
+    let (index, keep, goal) = (&*index, &*keep, &*goal);
     let costs = solve::<C>(heap, index, keep, goal)?;
     let known = Known::<C> {
         index,

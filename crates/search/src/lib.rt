@@ -11,7 +11,7 @@ pub use index::MoveIndex;
 pub use labelling::search;
 
 // What to do in a condition: there is no plan, the goal holds, or work an operation at this cost.
-// Stays: an Option of the last two is no plainer: what is written of it is one of three, and would be matched twice.
+// Stays: each reader tells all three apart, and an Option of the last two would be matched twice.
 #[derive(Clone, Copy)]
 pub enum Choice<K> {
     None,

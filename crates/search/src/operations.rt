@@ -34,7 +34,7 @@ fn attains<C: CostModel>(moves: &[Move], costs: &[Option<C::Cost>], cost: C::Cos
 }
 
 // The least that an operation comes to, of moves in order of operation.
-pub fn cheapest<C: CostModel>(moves: &[Move], costs: &[Option<C::Cost>]) -> Option<C::Cost>
+pub(crate) fn cheapest<C: CostModel>(moves: &[Move], costs: &[Option<C::Cost>]) -> Option<C::Cost>
     requires ordered { Ordered moves.now }
     requires few { ∥ Few C.model C.exact 255 costs.now ∥₁ }
     ensures { Cheapest C.model (looked C.exact costs.now) (By moves.now) (shown C.exact result) }
@@ -47,7 +47,7 @@ pub fn cheapest<C: CostModel>(moves: &[Move], costs: &[Option<C::Cost>]) -> Opti
 }
 
 // The lowest operation that comes to `cost`, of moves in order of operation.
-pub fn operation<C: CostModel>(
+pub(crate) fn operation<C: CostModel>(
     moves: &[Move],
     costs: &[Option<C::Cost>],
     cost: C::Cost,

@@ -13,6 +13,7 @@ pub use solution::{has_room, pair_count, place_count, solve};
 use std::fmt;
 
 // What the policy says for a request in a condition: no plan, stop here, or work this operation.
+// Stays: each reader tells all three apart, and an Option of the last two would be matched twice.
 #[derive(Clone, Copy, Debug, PartialEq)]
 pub enum Entry {
     None,
@@ -22,7 +23,7 @@ pub enum Entry {
 
 impl Entry {
     // The byte by which an entry is known: 255 for none, 254 for there, else the operation.
-    // Stays: callers may know an entry by a byte; in the program it is an enum.
+    // Stays: a rule of the project: docs/CALLS.md knows an entry by this byte.
     pub fn byte(self) -> u8
         ensures { result ≡ entry_byte self }
     {
@@ -63,7 +64,7 @@ pub enum SolveError {
 
 impl SolveError {
     // The number of a refusal; want of memory has none.
-    // Stays: a buffer that is too short is refused by number; in the program it is an enum.
+    // Stays: a rule of the project: docs/CALLS.md knows this refusal by its number.
     pub fn number(self) -> Option<u8>
         ensures { result ≡ refusal_number self }
     {

@@ -80,7 +80,7 @@ fn summarize(port: &Port, ranks: &[u16]) -> Summary
 
 // Solves the port under a cost model. Entries and costs go by request, ranks by stage, and then each by condition; places past
 // these stay as they were. A buffer that is too short is refused before anything is written, and so is want of memory.
-// Stays: the call writes into buffers of the caller, and so there are three of them.
+// Stays: a rule of the project: the call fills buffers of the caller, and refuses one that is too short.
 pub fn solve<C: CostModel>(
     heap: Global,
     port: &Port,

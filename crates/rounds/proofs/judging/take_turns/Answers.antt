@@ -10,12 +10,15 @@ pub offset_bounds-stages-task : goal.offset_bounds-stages-task
 offset_bounds-stages-task c =
     let l : c.loop-task.task-index < length c.loop-task.tasks = omega arith in
     let ends = turn_ends c.args.index.now c.requires c.loop-task.invariant l c.task-item.result in
-    record { fits = omega (arith, ends.0, ends.1) }
+    let leaves = turn_leaves c.args.index.now c.requires c.loop-task.invariant l c.task-item.result in
+    record { fits = omega (arith, ends.0, leaves, ends.1) }
 
 pub bounds-stages-task : goal.bounds-stages-task
 bounds-stages-task c =
     let l : c.loop-task.task-index < length c.loop-task.tasks = omega arith in
-    (turn_ends c.args.index.now c.requires c.loop-task.invariant l c.task-item.result).0
+    let ends = turn_ends c.args.index.now c.requires c.loop-task.invariant l c.task-item.result in
+    let leaves = turn_leaves c.args.index.now c.requires c.loop-task.invariant l c.task-item.result in
+    omega (arith, ends.0, leaves)
 
 pub refresh-requires-clause-alive : goal.refresh-requires-clause-alive
 refresh-requires-clause-alive c =
