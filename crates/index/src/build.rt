@@ -1,6 +1,5 @@
 // How the index of a port is made.
-ghost use Rattle.std.specs.Prelude.{◌≡◌, ◌+◌, ◌≤◌, length, IfOk, vec_len};
-ghost use Rattle.port.specs.Limits.{MovesExist};
+ghost use Rattle.std.specs.Prelude.{◌≡◌, ◌+◌, IfOk, vec_len};
 ghost use Rattle.index.specs.Indexed.{port_of};
 ghost use Rattle.index.specs.Indexes.{Flags, Start, Starts, Timed};
 
@@ -40,13 +39,11 @@ fn starts_of(heap: Global, port: &Port) -> Result<Vec<usize>, AllocError>
 }
 
 // For each outcome, from which conditions a move leads to it.
-fn into_of(heap: Global, conditions: usize, moves: &[Move]) -> Result<Vec<[bool; 256]>, AllocError>
-    requires few { conditions ≤ 256 }
-    requires exist { MovesExist conditions 256 moves.now }
-    ensures { IfOk result (λ v. (vec_len v ≡ conditions) × Flags moves.now (length moves.now) v.items) }
+fn into_of(heap: Global, port: &Port) -> Result<Vec<[bool; 256]>, AllocError>
+    ensures { IfOk result (λ v. (vec_len v ≡ vec_len port.now.conditions) × Flags port.now.moves.items (vec_len port.now.moves) v.items) }
 {
-    let mut into = vec![in heap; [false; 256]; conditions]?;
-    for m in moves {
+    let mut into = vec![in heap; [false; 256]; port.conditions.len()]?;
+    for m in &port.moves {
         into[m.outcome as usize][m.condition as usize] = true;
     }
     Ok(into)
@@ -59,7 +56,7 @@ impl<'a> MoveIndex<'a> {
     {
         bound_minutes(&port.moves);
         let starts = starts_of(heap, port)?;
-        let into = into_of(heap, port.conditions.len(), &port.moves)?;
+        let into = into_of(heap, port)?;
         Ok(MoveIndex { port, starts, into })
     }
 }

@@ -58,7 +58,3 @@ Few {A} k e steps t = (c : ℕ) (a : A) → slice_index_or t c None ≡ Some a �
 -- and so is each that is below f
 abbrev pub FewBelow : {A : Type 0} → Model → (A → List ℕ) → ℕ → List (Option A) → List ℕ → Type 0
 FewBelow {A} k e steps t f = (c : ℕ) (a : A) → slice_index_or t c None ≡ Some a → k.within f (e a) ≡ false → Reached k steps (e a)
-
--- and so is each that a move of the list leads to
-abbrev pub FewAfter : {A : Type 0} → Model → (A → List ℕ) → ℕ → List (Option A) → List Move → Type 0
-FewAfter {A} k e steps t ms = (m : Move) (a : A) → In m ms → slice_index_or t m.outcome None ≡ Some a → Reached k steps (e a)

@@ -2,7 +2,6 @@
 ghost use Rattle.search.specs.Labels.{Few};
 
 use crate::Choice;
-use crate::operations::{cheapest, operation};
 use costs::CostModel;
 use index::MoveIndex;
 use std::alloc::{AllocError, Global};
@@ -40,7 +39,7 @@ impl<C: CostModel> Known<'_, '_, '_, C> {
         ensures { Offered C.model (moves_of self.now.index.now) (has self.now.keep.now) (looked C.exact self.now.costs.now) c (shown C.exact result) }
     {
         if self.is_open(c) {
-            cheapest::<C>(self.index.moves_from(c), self.costs)
+            self.cheapest(self.index.moves_from(c))
         } else {
             None
         }
@@ -70,7 +69,7 @@ impl<C: CostModel> Known<'_, '_, '_, C> {
         ensures { Worked C.model C.exact (moves_of self.now.index.now) (looked C.exact self.now.costs.now) c result }
     {
         let cost = cost_at(self.costs, c)?;
-        let lowest = operation::<C>(self.index.moves_from(c), self.costs, cost)?;
+        let lowest = self.operation(self.index.moves_from(c), cost)?;
         Some((lowest, cost))
     }
 

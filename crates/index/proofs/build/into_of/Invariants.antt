@@ -3,4 +3,4 @@ use Rattle.index.specs.Indexes.{Flags}
 use Rattle.index.proofs.build.into_of.Given as goal
 
 abbrev pub invariant-loop-m : goal.invariant-loop-m
-invariant-loop-m l = (vec_len l.into ≡ l.conditions) × Flags l.moves l.m-index (vec_items l.into)
+invariant-loop-m l = (vec_len l.into ≡ vec_len l.port.conditions) × Flags (vec_items l.port.moves) l.m-index (vec_items l.into)

@@ -1,22 +1,14 @@
 use Rattle.std.proofs.Common.{◌≡◌, Some, None, sym, ap, ◌∙◌, subst, rules}
-use Rattle.std.proofs.Math.Logic.{∥∥₁_map}
 use Rattle.plans.specs.Plans.{Can}
 use Rattle.costs.specs.Compare.{shown}
 use Rattle.index.specs.Indexed.{moves_of}
 use Rattle.search.specs.Groups.{Lowest}
-use Rattle.search.specs.Labels.{After, Few, FewBelow, Worst}
+use Rattle.search.specs.Labels.{After, Worst}
 use Rattle.search.specs.Steps.{Worked}
 use Rattle.tables.specs.Tables.{looked}
 use Rattle.tables.proofs.Options.{some_inj}
 use Rattle.search.proofs.Steps.{lowest_from, none_from}
 use Rattle.search.proofs.known.Known.work.Goals as goal
-
-pub operation-requires-clause-few : goal.operation-requires-clause-few
-operation-requires-clause-few g c =
-    let k = g.C.CostModel in
-    let cs = c.args.self.now.costs.now in
-    let below : Few k.model k.exact 255 cs → FewBelow k.model k.exact 255 cs (k.exact c.in_ok-cost.cost) = λ few i a e w. few i a e in
-    ∥∥₁_map c.args.self.now.few below
 
 pub returns-in_err-lowest : goal.returns-in_err-lowest
 returns-in_err-lowest g c =

@@ -1,7 +1,0 @@
-use Rattle.search.specs.Groups.{Topped}
-use Rattle.costs.specs.Compare.{shown}
-use Rattle.tables.specs.Tables.{looked}
-use Rattle.search.proofs.operations.worst.Given as goal
-
-abbrev pub invariant-loop-m : goal.invariant-loop-m
-invariant-loop-m g l = let k = g.C.CostModel in Topped k.model (looked k.exact l.costs) l.moves l.m-index (shown k.exact l.top)
