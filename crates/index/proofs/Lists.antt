@@ -1,6 +1,6 @@
 -- Lists and their places.
-use Rattle.std.proofs.Common.{◌≡◌, ℕ, zero, suc, ◌+◌, ◌-◌, ◌<◌, ◌≤◌, ◌⊎◌, List, [], ◌∷◌, ◌++◌, length, get_or, take, drop, sym, refl, ap, ◌∙◌, subst, inl, inr, ⊎_elim, arith, below_more}
-use Rattle.std.proofs.lemmas.List.{take_more, length-take-le, length-drop, get_or-take, get_or-drop, get_or_append_left, get_or_push}
+use Rattle.std.proofs.Common.{◌≡◌, ℕ, zero, suc, ◌+◌, ◌-◌, ◌<◌, ◌≤◌, ◌⊎◌, List, [], ◌∷◌, ◌++◌, length, get_or, take, drop, sym, refl, ap, ◌∙◌, subst, inl, inr, ⊎_elim, arith}
+use Rattle.std.proofs.lemmas.List.{take_more, length-take-le, length-drop, get_or-take, get_or-drop}
 use Rattle.port.specs.Limits.{In}
 
 module _ {A : Type 0} (d : A) where
@@ -64,10 +64,3 @@ module _ {A : Type 0} (d : A) where
       let p = in_at (part a b xs) x h in
       let short : p.0 < b - a = subst (λ n. p.0 < n) (part_length a b xs l) p.1 in
       (a + p.0, omega arith, omega arith, p.2 ∙ part_at a b xs p.0 short)
-
--- what holds at each place holds with one more at the end
-pub pushed_each : {A : Type 0} (P : ℕ → A → Type 0) (xs ys : List A) (x z : A) (i : ℕ) → ys ≡ xs ++ (x ∷ []) → length xs ≡ i → ((d : ℕ) → d < i → P d (get_or xs d z)) → P i x → (d : ℕ) → d < i + 1 → P d (get_or ys d z)
-pushed_each {A} P xs ys x z i p l h q =
-    below_more (λ d. P d (get_or ys d z)) i
-    (λ d b. let m : d < length xs = omega arith in subst (P d) (sym (ap (λ (zs : List A). get_or zs d z) p ∙ get_or_append_left xs (x ∷ []) z d m)) (h d b))
-    (subst (P i) (sym (ap (λ (zs : List A). get_or zs i z) p ∙ get_or_push xs x z i l)) q)

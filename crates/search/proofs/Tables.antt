@@ -1,12 +1,8 @@
 -- Tables of costs.
-use Rattle.std.proofs.Common.{◌≡◌, ℕ, zero, suc, ◌<◌, ◌≤◌, List, [], ◌∷◌, length, get_or, set, Some, None, Option, sym, refl, ap, arith}
+use Rattle.std.proofs.Common.{◌≡◌, ℕ, zero, suc, ◌<◌, ◌≤◌, List, [], ◌∷◌, length, get_or, set, Some, None, Option, refl, ap, arith}
 use Rattle.costs.specs.Compare.{shown}
 use Rattle.search.specs.Labels.{done}
 use Rattle.tables.proofs.Options.{some_inj, none_some}
-
-pub shown_none : {A : Type 0} (e : A → List ℕ) (x : Option A) → shown e x ≡ None → x ≡ None
-shown_none e None q = refl
-shown_none e (Some a) q = absurd (none_some (sym q))
 
 -- what the table has, as a cost of the program
 pub unshown : {A : Type 0} (e : A → List ℕ) (x : Option A) (f : List ℕ) → shown e x ≡ Some f → (a : A) × (x ≡ Some a) × (e a ≡ f)
