@@ -1,10 +1,12 @@
 -- After the last round.
 use Rattle.std.proofs.Common.{◌≡◌, ℕ, ◌+◌, ◌*◌, ◌<◌, Bool, true, false, ◌&&◌, ◌↔◌, List, length, get_or, vec_items, sym, refl, ap, ◌∙◌, subst, ap₂, arith}
 use mathlib.Core.Bool.{and-eq-true_iff}
+use Rattle.std.proofs.Math.Logic.{∥∥₁_elim, ∥∥₁_map}
+use Rattle.std.proofs.Props.{props}
 use Rattle.std.specs.List.{flat_map}
 use Rattle.plans.specs.Simulation.{Domain, WellFormed, InRange, Kept, Rank}
 use Rattle.plans.specs.Flags.{has, rank_at, task_at}
-use Rattle.plans.proofs.Ranks.{kept_rank, left_serves}
+use Rattle.plans.proofs.Ranks.{kept_rank, left_serves, rank_of, rank_unique}
 use Rattle.plans.proofs.Serve.{kept_row}
 use Rattle.rounds.specs.Rounds.{Going}
 use Rattle.rounds.specs.Stages.{left_in, rank_in, rank_row}
@@ -16,23 +18,32 @@ use Rattle.rounds.proofs.Lists.{an_element, joined_at, joined_long}
 use Rattle.rounds.proofs.Freshness.{task_staged}
 use Rattle.rounds.proofs.Turns.{left_at, rank_at_stage}
 
-module _ (D : Domain) (wf : WellFormed D) (tasks : List Task) (stages : List Stage) (k : ℕ) (g : Going D tasks stages k false) where
+module _ (D : Domain) (wf : WellFormed D) (tasks : List Task) (stages : List Stage) (k : ℕ) (changed : Bool) (g : Going D tasks stages k changed) (over : changed ≡ false) where
+  -- a pair has one rank, so it is enough that there is a proof that this is it
+  rank_shown : (s c n : ℕ) → InRange D s c → ∥ Rank D s c n ∥₁ → Rank D s c n
+  rank_shown s c n r p =
+      let t = rank_of D wf s c r in
+      subst (Rank D s c) (∥∥₁_elim p (search props) (λ a. rank_unique D s c t.0 n t.2 a)) t.2
+
+  rank_none : (s c : ℕ) → InRange D s c → left_in stages s c ≡ true → Rank D s c 0
+  rank_none s c r up = rank_shown s c 0 r (∥∥₁_map (g.judged.lasts over s c r up) (kept_rank D s c))
+
   -- what is left is what is kept
   kept : (s c : ℕ) → InRange D s c → (left_in stages s c ≡ true) ↔ Kept D s c
-  kept s c r = (g.judged.lasts refl s c r, λ h. g.judged.alike s c r ∙ (left_serves D wf k s c r).1 (kept_row D s c h k))
+  kept s c r = (λ up. (rank_none s c r up).0, λ h. g.judged.alike s c r ∙ (left_serves D wf k s c r).1 (kept_row D s c h k))
 
   ranked : (s c : ℕ) → InRange D s c → Rank D s c (rank_in stages s c)
   ranked s c r = go (left_in stages s c) refl
     where
       go : (b : Bool) → left_in stages s c ≡ b → Rank D s c (rank_in stages s c)
-      go true up = subst (Rank D s c) (sym (g.judged.zeros s c r up)) (kept_rank D s c (g.judged.lasts refl s c r up))
-      go false f = g.judged.ranked s c r f
+      go true up = subst (Rank D s c) (sym (g.judged.zeros s c r up)) (rank_none s c r up)
+      go false f = rank_shown s c (rank_in stages s c) r (g.judged.ranked s c r f)
 
   wide : (s : ℕ) (d : Stage) → s < length stages → length (rank_row (get_or stages s d)) ≡ D.conditions
   wide s d l = (g.ready.wide s d (omega (arith, l, g.ready.high))).ranks
 
   fresh : (i : ℕ) (d : Task) (e : Stage) → i < length D.tasks → Fresh D (vec_items (get_or stages (task_at D i).to e).alive) (get_or tasks i d)
-  fresh i d e l = g.ready.fresh i d e l (λ le. g.still refl (task_at D i).to e (task_staged D wf i l).1)
+  fresh i d e l = g.ready.fresh i d e l (λ le. g.still over (task_at D i).to e (task_staged D wf i l).1)
 
   stage : (i : ℕ) → i < length D.tasks → Stage
   stage i l = an_element stages (task_at D i).to (subst (λ (n : ℕ). (task_at D i).to < n) (sym g.ready.high) (task_staged D wf i l).1)

@@ -1,6 +1,8 @@
 -- The tasks of a port tell those of its domain, and rows that are up to date say from where each can be served.
 use Rattle.std.proofs.Common.{◌≡◌, ℕ, ◌<◌, Bool, true, false, ◌&&◌, ◌↔◌, List, map, length, get_or, vec_items, sym, refl, ap, ◌∙◌, subst, ap₂, arith}
 use mathlib.Core.Bool.{false≢true}
+use Rattle.std.proofs.Math.Logic.{∥∥₁_elim}
+use Rattle.std.proofs.Props.{props}
 use Rattle.std.proofs.lemmas.List.{get_or-map, length-map}
 use Rattle.std.proofs.lemmas.Slice.Zip.{AllZip-long}
 use Rattle.formula.specs.Truth.{truth}
@@ -11,10 +13,10 @@ use Rattle.port.specs.declared.held.Port.{Port}
 use Rattle.plans.specs.Domains.{domain_of, task_of}
 use Rattle.plans.specs.Plans.{stop, work}
 use Rattle.plans.specs.Simulation.{Domain, Task as Asked, WellFormed}
-use Rattle.plans.specs.Reach.{Attainable, aim}
+use Rattle.plans.specs.Reach.{Attainable, aim, reached}
 use Rattle.plans.specs.Flags.{has, task_at, no_task}
 use Rattle.plans.proofs.Attain.{stop_attains, attainable_wider}
-use Rattle.plans.proofs.Flags.{reached_by}
+use Rattle.plans.proofs.Decide.{alike, reached_attains}
 use Rattle.plans.proofs.Formed.{tasks_length}
 use Rattle.plans.proofs.Index.{in_at}
 use Rattle.costs.specs.Costs.{Model as Costing}
@@ -52,21 +54,21 @@ searched k e D alive choices t long wide goal a served = record {
       let here : has (vec_items t.served) c ≡ planned (get_or choices c None) =
       ap (λ fs. has fs c) served ∙ get_or-map planned choices c None false (omega (arith, a.sized)) in
       let iff = planned_iff k e D.moves (has (vec_items t.keep)) (has (vec_items t.goal)) c (get_or choices c None) (a.each c l) in
-      (λ b. iff.0 (sym here ∙ b), λ p. here ∙ iff.1 p);
+      (λ b. ∣ iff.0 (sym here ∙ b) ∣₁, λ p. here ∙ ∥∥₁_elim p (search props) iff.1);
 }
 
 -- rows that are up to date with a set's pairs say from where the task can be served with these to end in
 pub fresh_serving : (D : Domain) → WellFormed D → (R : ℕ → ℕ → Bool) (i : ℕ) (alive : List Bool) (t : Task) → Tells D.conditions (task_at D i) t →
     Fresh D alive t → ((c : ℕ) → has alive c ≡ R (task_at D i).to c) →
     (c : ℕ) → c < D.conditions → has (vec_items t.served) c ≡ serving D R i c
-fresh_serving D wf R i alive t told f same =
-    reached_by D wf (task_at D i).keep (aim R (task_at D i)) (has (vec_items t.served))
-    (λ x l. (
-      λ b. attainable_wider D.conditions D.moves wf.within (has (vec_items t.keep)) (has (vec_items t.goal)) (task_at D i).keep (aim R (task_at D i))
-          (λ y h e. sym (told.keep y h) ∙ e) (λ y h e. sym (goals y h) ∙ e) x l ((f.served x l).0 b),
-      λ p. (f.served x l).1 (attainable_wider D.conditions D.moves wf.within (task_at D i).keep (aim R (task_at D i)) (has (vec_items t.keep)) (has (vec_items t.goal))
-          (λ y h e. told.keep y h ∙ e) (λ y h e. goals y h ∙ e) x l p),
-    ))
+fresh_serving D wf R i alive t told f same c l =
+    let iff = reached_attains D wf (task_at D i).keep (aim R (task_at D i)) c l in
+    alike (has (vec_items t.served) c) (reached D (task_at D i).keep (aim R (task_at D i)) c)
+    (λ b. ∥∥₁_elim ((f.served c l).0 b) (search props) (λ p.
+    iff.1 (attainable_wider D.conditions D.moves wf.within (has (vec_items t.keep)) (has (vec_items t.goal)) (task_at D i).keep (aim R (task_at D i))
+    (λ y h e. sym (told.keep y h) ∙ e) (λ y h e. sym (goals y h) ∙ e) c l p)))
+    (λ b. (f.served c l).1 ∣ attainable_wider D.conditions D.moves wf.within (task_at D i).keep (aim R (task_at D i)) (has (vec_items t.keep)) (has (vec_items t.goal))
+    (λ y h e. told.keep y h ∙ e) (λ y h e. goals y h ∙ e) c l (iff.0 b) ∣₁)
   where
     goals : (y : ℕ) → y < D.conditions → has (vec_items t.goal) y ≡ aim R (task_at D i) y
     goals y h = f.goal y h ∙ ap₂ ◌&&◌ (told.reach y h) (same y)

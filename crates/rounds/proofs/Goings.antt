@@ -11,7 +11,7 @@ use Rattle.plans.proofs.Decide.{left_iterates, serves_same}
 use Rattle.plans.proofs.Flags.{bit_true, raised_most}
 use Rattle.plans.proofs.Rounds.{served_rows}
 use Rattle.plans.proofs.Shrink.{dropped_rank, shrinks, stable_kept}
-use Rattle.rounds.specs.Rounds.{FreshFrom, Going, Judged, Ran, Ready, Turned, count_left, serving}
+use Rattle.rounds.specs.Rounds.{FreshFrom, Going, Judged, Ready, Turned, count_left, serving}
 use Rattle.rounds.specs.Stages.{SettledAll, SettledBy, StagesNew, left_in, next_in, rank_in}
 use Rattle.rounds.specs.Tasks.{Fresh, Told}
 use Rattle.rounds.specs.declared.stages.Stage.{Stage}
@@ -89,7 +89,7 @@ judged_turn D wf R S old new k was changed j next down noted same = record {
   alike = next;
   ranked = λ s c r f. out s c r f (R s c) refl;
   zeros = λ s c r t. noted s c r ∙ ap₂ (λ (a b : Bool). cond (a && not b) (suc k) (old s c)) (down s c r t) t ∙ j.zeros s c r (down s c r t);
-  lasts = λ e s c r t. (stable_kept D wf (left D) it k (stable e) s c r).0 (sym (j.alike s c r) ∙ down s c r t);
+  lasts = λ e s c r t. ∣ (stable_kept D wf (left D) it k (stable e) s c r).0 (sym (j.alike s c r) ∙ down s c r t) ∣₁;
 }
   where
     it : Iterates D (left D)
@@ -98,12 +98,12 @@ judged_turn D wf R S old new k was changed j next down noted same = record {
     stable : changed ≡ false → Stable D (left D) k
     stable e s c r = sym (next s c r) ∙ same e s c r ∙ j.alike s c r
 
-    out : (s c : ℕ) → InRange D s c → S s c ≡ false → (b : Bool) → R s c ≡ b → Rank D s c (new s c)
+    out : (s c : ℕ) → InRange D s c → S s c ≡ false → (b : Bool) → R s c ≡ b → ∥ Rank D s c (new s c) ∥₁
     out s c r f true b =
-        subst (Rank D s c) (sym (noted s c r ∙ ap₂ (λ (a x : Bool). cond (a && not x) (suc k) (old s c)) b f))
-        (dropped_rank D wf (left D) it k s c r (sym (j.alike s c r) ∙ b) (sym (next s c r) ∙ f))
+        subst (λ (n : ℕ). ∥ Rank D s c n ∥₁) (sym (noted s c r ∙ ap₂ (λ (a x : Bool). cond (a && not x) (suc k) (old s c)) b f))
+        ∣ dropped_rank D wf (left D) it k s c r (sym (j.alike s c r) ∙ b) (sym (next s c r) ∙ f) ∣₁
     out s c r f false b =
-        subst (Rank D s c) (sym (noted s c r ∙ ap (λ (a : Bool). cond (a && not (S s c)) (suc k) (old s c)) b)) (j.ranked s c r b)
+        subst (λ (n : ℕ). ∥ Rank D s c n ∥₁) (sym (noted s c r ∙ ap (λ (a : Bool). cond (a && not (S s c)) (suc k) (old s c)) b)) (j.ranked s c r b)
 
 -- ── one round more ──
 
@@ -117,7 +117,7 @@ past_off [] c l = refl
 past_off (f ∷ fs) zero l = absurd (omega arith)
 past_off (f ∷ fs) (suc c) l = past_off fs c (omega arith)
 
-module _ (D : Domain) (wf : WellFormed D) (tasks tasks' : List Task) (before turned after : List Stage) (k : ℕ) (changed : Bool) (g : Going D tasks before k true) (t : Turned D before tasks' turned (length D.tasks)) (s : SettledAll (k + 1) turned after changed) where
+module _ (D : Domain) (wf : WellFormed D) (tasks tasks' : List Task) (before turned after : List Stage) (k : ℕ) (old changed : Bool) (g : Going D tasks before k old) (on : old ≡ true) (t : Turned D before tasks' turned (length D.tasks)) (s : SettledAll (k + 1) turned after changed) where
   high : length after ≡ D.stages
   high = s.many ∙ t.high
 
@@ -213,6 +213,7 @@ module _ (D : Domain) (wf : WellFormed D) (tasks tasks' : List Task) (before tur
       go (inl p) = absurd ((settled x d l).lost lost (sym (settled x d l).alive ∙ p ∙ ap vec_items (sym (t.same x d l).alive)))
       go (inr h) = h
 
+  -- no more pairs are left than before, and fewer where the round took one out
   going_fewer : count_left after + bit changed ≤ count_left before
   going_fewer = go changed refl
     where
@@ -226,22 +227,19 @@ module _ (D : Domain) (wf : WellFormed D) (tasks tasks' : List Task) (before tur
           let at : some.0 < D.stages = omega (arith, some.1, t.high) in
           omega (arith, count_less before after even no_more some.0 (omega (arith, at, g.ready.high)) (λ d. less some.0 d at (some.2 d)))
 
-  going : Going D tasks' after (k + 1) changed
-  going = record {
+  pub going_on : Going D tasks' after (k + 1) changed
+  going_on = record {
     ready = ready;
-    judged = subst (λ (n : ℕ). Judged D (left_in after) (rank_in after) n changed) (sym (add-one k)) (judged_turn D wf (left_in before) (left_in after) (rank_in before) (rank_in after) k true changed g.judged
+    judged = subst (λ (n : ℕ). Judged D (left_in after) (rank_in after) n changed) (sym (add-one k)) (judged_turn D wf (left_in before) (left_in after) (rank_in before) (rank_in after) k old changed g.judged
         (round_left D wf k (left_in before) (left_in after) g.judged.alike round) down
         (λ x c r. noted x c r ∙ ap (λ (n : ℕ). cond (left_in before x c && not (left_in after x c)) n (rank_in before x c)) (add-one k))
         (λ e x c r.
         let d : Stage = an_element after x (omega (arith, r.0, high)) in
         left_at after x c d (omega (arith, r.0, high)) ∙ ap (λ fs. has fs c) (quiet x d r.0 (s.still e x d (omega (arith, r.0, t.high))))
         ∙ sym (left_at before x c d (omega (arith, r.0, g.ready.high)))));
-    few = omega (arith, going_fewer, g.few, bit_true true refl);
+    few = omega (arith, going_fewer, g.few, bit_true old on);
     still = λ e x d l. s.still e x d (omega (arith, l, t.high));
   }
-
-  pub ran : Ran D before tasks' after (k + 1) changed
-  ran = record { going = going; fewer = going_fewer }
 
 -- ── before the first round ──
 

@@ -61,9 +61,9 @@ pub record Turned (D : Domain) (before : List Stage) (tasks : List Task) (stages
 -- out, that what is left is kept.
 pub record Judged (D : Domain) (alive : ℕ → ℕ → Bool) (rank : ℕ → ℕ → ℕ) (rounds : ℕ) (changed : Bool) : Type 0 where
   pub alike : (s c : ℕ) → InRange D s c → alive s c ≡ left D rounds s c
-  pub ranked : (s c : ℕ) → InRange D s c → alive s c ≡ false → Rank D s c (rank s c)
+  pub ranked : (s c : ℕ) → InRange D s c → alive s c ≡ false → ∥ Rank D s c (rank s c) ∥₁
   pub zeros : (s c : ℕ) → InRange D s c → alive s c ≡ true → rank s c ≡ 0
-  pub lasts : changed ≡ false → (s c : ℕ) → InRange D s c → alive s c ≡ true → Kept D s c
+  pub lasts : changed ≡ false → (s c : ℕ) → InRange D s c → alive s c ≡ true → ∥ Kept D s c ∥₁
 
 -- How many pairs are left.
 abbrev pub count_left : List Stage → ℕ
@@ -77,8 +77,3 @@ pub record Going (D : Domain) (tasks : List Task) (stages : List Stage) (rounds 
   -- each round but the last takes a pair out
   pub few : rounds + count_left stages + bit changed ≤ D.stages * D.conditions + 1
   pub still : changed ≡ false → (s : ℕ) (d : Stage) → s < D.stages → (slice_index_or stages s d).lost ≡ false
-
--- One round more has been run: no more pairs are left than before, and fewer where it took one out.
-pub record Ran (D : Domain) (before : List Stage) (tasks : List Task) (stages : List Stage) (rounds : ℕ) (changed : Bool) : Type 0 where
-  pub going : Going D tasks stages rounds changed
-  pub fewer : count_left stages + bit changed ≤ count_left before

@@ -57,4 +57,4 @@ pub record Fresh (D : Domain) (alive : List Bool) (t : Task) : Type 0 where
   pub goal_long : length (vec_items t.goal) ≡ D.conditions
   pub served_long : length (vec_items t.served) ≡ D.conditions
   pub goal : Agree D.conditions (has (vec_items t.goal)) (λ c. has (vec_items t.reach) c && has alive c)
-  pub served : (c : ℕ) → c < D.conditions → (has (vec_items t.served) c ≡ true) ↔ Attainable D.moves (has (vec_items t.keep)) (has (vec_items t.goal)) c
+  pub served : (c : ℕ) → c < D.conditions → (has (vec_items t.served) c ≡ true) ↔ ∥ Attainable D.moves (has (vec_items t.keep)) (has (vec_items t.goal)) c ∥₁

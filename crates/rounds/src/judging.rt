@@ -1,12 +1,12 @@
 // Which pairs of stage and condition are kept, by synchronous rounds: each takes out the pairs that some request of their stage cannot
 // be served from, with the pairs that the round before left to end in.
-ghost use Rattle.std.specs.Prelude.{◌≡◌, ℕ, ◌<◌, true, false, length, IfOk, OnOk, slice_index_or};
+ghost use Rattle.std.specs.Prelude.{◌≡◌, ℕ, ◌+◌, ◌<◌, true, length, IfOk, OnOk, slice_index_or};
 ghost use Rattle.std.specs.List.{flat_map};
 ghost use Rattle.plans.specs.Domains.{domain_of};
 ghost use Rattle.port.specs.Model.{model_of};
 ghost use Rattle.index.specs.Indexed.{port_of};
 ghost use Rattle.rounds.specs.Stages.{Even, SettledAll, rank_row};
-ghost use Rattle.rounds.specs.Rounds.{Going, Ran, Ready, Turned, domain_in};
+ghost use Rattle.rounds.specs.Rounds.{Going, Ready, Turned, domain_in};
 ghost use Rattle.rounds.specs.Verdicts.{Judges};
 
 use crate::stages::{Stage, stages_of};
@@ -71,13 +71,15 @@ struct Rounds<'a> {
     tasks: Vec<Task>,
     stages: Vec<Stage>,
     count: u16,
+    // Whether the last of them took out a pair; true before the first.
+    changed: bool,
+    ghost going: { Going (domain_in index) tasks.items stages.items count changed },
 }
 
 impl<'a> Rounds<'a> {
     // Before the first round, with every pair left.
     fn new(heap: Global, port: &'a Port) -> Result<Rounds<'a>, AllocError>
-        ensures index { IfOk result (λ r. port_of r.index ≡ port.now) }
-        ensures going { IfOk result (λ r. Going (domain_in r.index) r.tasks.items r.stages.items r.count true) }
+        ensures { IfOk result (λ r. port_of r.index ≡ port.now) }
     {
         let index = MoveIndex::new(heap, port)?;
         let tasks = tasks_of(heap, port)?;
@@ -87,28 +89,33 @@ impl<'a> Rounds<'a> {
             tasks,
             stages,
             count: 0,
+            changed: true,
         })
     }
 
-    // One round more; whether it took out a pair.
-    fn run(&mut self, heap: Global) -> Result<bool, AllocError>
-        requires { Going (domain_in self.old.index) self.old.tasks.items self.old.stages.items self.old.count true }
-        ensures index { OnOk result (self.new.index ≡ self.old.index) }
-        ensures ran { IfOk result (λ changed. Ran (domain_in self.old.index) self.old.stages.items self.new.tasks.items self.new.stages.items self.new.count changed) }
+    // One round more.
+    fn run(self, heap: Global) -> Result<Rounds<'a>, AllocError>
+        requires { self.changed ≡ true }
+        ensures index { IfOk result (λ r. r.index ≡ self.entry.index) }
+        ensures count { IfOk result (λ r. r.count ≡ self.entry.count + 1) }
     {
-        take_turns(heap, &self.index, &mut self.tasks, &mut self.stages)?;
-        self.count += 1;
-        Ok(settle(&mut self.stages, self.count))
-    }
-
-    // Rounds, until one takes out no pair.
-    fn finish(&mut self, heap: Global) -> Result<(), AllocError>
-        requires { Going (domain_in self.old.index) self.old.tasks.items self.old.stages.items self.old.count true }
-        ensures index { OnOk result (self.new.index ≡ self.old.index) }
-        ensures going { OnOk result (Going (domain_in self.old.index) self.new.tasks.items self.new.stages.items self.new.count false) }
-    {
-        while self.run(heap)? {}
-        Ok(())
+        let Rounds {
+            index,
+            mut tasks,
+            mut stages,
+            count,
+            ..
+        } = self;
+        take_turns(heap, &index, &mut tasks, &mut stages)?;
+        let count = count + 1;
+        let changed = settle(&mut stages, count);
+        Ok(Rounds {
+            index,
+            tasks,
+            stages,
+            count,
+            changed,
+        })
     }
 }
 
@@ -118,7 +125,9 @@ pub fn judge<'a>(heap: Global, port: &'a Port) -> Result<Verdict<'a>, AllocError
     ensures told { IfOk result (λ v. Judges (domain_of (model_of port.now)) v.tasks.items v.ranks.items) }
 {
     let mut rounds = Rounds::new(heap, port)?;
-    rounds.finish(heap)?;
+    while rounds.changed {
+        rounds = rounds.run(heap)?;
+    }
     let Rounds {
         index,
         tasks,

@@ -1,29 +1,36 @@
-// Rows of flags, a flag for each condition.
+// Formulas, and rows of flags, a flag for each condition.
 ghost use Rattle.std.specs.Prelude.{◌≡◌, true, IfOk};
 ghost use Rattle.formula.specs.Truth.{is_formula, truth};
 ghost use Rattle.rounds.specs.Rows.{both, truths};
 
-use port::{Port, Text};
+use port::Text;
 use std::alloc::{AllocError, Global};
 
-// Whether the text holds on a set of marks.
-fn holds(text: &Text, count: u8, marks: u16) -> bool
-    requires { is_formula count text.now.bytes.items ≡ true }
-    ensures { result ≡ truth count marks text.now.bytes.items }
-{
-    formula::evaluate(text.bytes.as_slice(), count, marks).unwrap_or(false)
+// A text that is a formula over so many marks.
+#[derive(Clone, Copy)]
+pub(crate) struct Formula<'a> {
+    pub(crate) text: &'a Text,
+    pub(crate) count: u8,
+    ghost sound: { is_formula count text.now.bytes.items ≡ true },
 }
 
-// Where the text holds, condition by condition.
-pub(crate) fn holding(heap: Global, port: &Port, text: &Text) -> Result<Vec<bool>, AllocError>
-    requires { is_formula port.now.header.marks text.now.bytes.items ≡ true }
-    ensures { IfOk result (λ v. v.items ≡ truths port.now.header.marks port.now.conditions.items text.now.bytes.items) }
-{
-    let count = port.header.marks;
-    port.conditions
-        .iter()
-        .map(|marks| holds(text, count, *marks))
-        .collect(heap)
+impl Formula<'_> {
+    // Whether it holds on a set of marks.
+    fn holds(self, marks: u16) -> bool
+        ensures { result ≡ truth self.entry.count marks self.entry.text.now.bytes.items }
+    {
+        formula::evaluate(self.text.bytes.as_slice(), self.count, marks).unwrap_or(false)
+    }
+
+    // Where it holds, condition by condition.
+    pub(crate) fn holding(self, heap: Global, conditions: &[u16]) -> Result<Vec<bool>, AllocError>
+        ensures { IfOk result (λ v. v.items ≡ truths self.entry.count conditions.now self.entry.text.now.bytes.items) }
+    {
+        conditions
+            .iter()
+            .map(|marks| self.holds(*marks))
+            .collect(heap)
+    }
 }
 
 // Where both rows have a flag.

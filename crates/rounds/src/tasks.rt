@@ -1,11 +1,11 @@
 // A port's requests as the rounds see them.
-ghost use Rattle.std.specs.Prelude.{◌≡◌, true, false, length, IfOk, OnOk, map as mapped};
-ghost use Rattle.formula.specs.Truth.{is_formula};
+ghost use Rattle.std.specs.Prelude.{◌≡◌, false, length, IfOk, OnOk, map as mapped};
+ghost use Rattle.port.specs.Limits.{In};
 ghost use Rattle.port.specs.Model.{request_model};
 ghost use Rattle.rounds.specs.Rounds.{domain_in};
 ghost use Rattle.rounds.specs.Tasks.{Fresh, IsTask, SameTexts, TasksOf, planned};
 
-use crate::rows::{both, holding};
+use crate::rows::{Formula, both};
 use crate::stages::Stage;
 use costs::MoveCount;
 use index::MoveIndex;
@@ -40,15 +40,23 @@ fn planned<K: Copy>(heap: Global, choices: &[Choice<K>]) -> Result<Vec<bool>, Al
 
 impl Task {
     fn new(heap: Global, port: &Port, request: &Request) -> Result<Task, AllocError>
-        requires keep { is_formula port.now.header.marks request.now.keep.bytes.items ≡ true }
-        requires reach { is_formula port.now.header.marks request.now.reach.bytes.items ≡ true }
+        requires { In request.now port.now.requests.items }
         ensures { IfOk result (λ t. IsTask port.now.header.marks port.now.conditions.items (request_model request.now) t) }
     {
+        let count = port.header.marks;
+        let keep = Formula {
+            text: &request.keep,
+            count,
+        };
+        let reach = Formula {
+            text: &request.reach,
+            count,
+        };
         Ok(Task {
             from: request.from as usize,
             to: request.to as usize,
-            keep: holding(heap, port, &request.keep)?,
-            reach: holding(heap, port, &request.reach)?,
+            keep: keep.holding(heap, &port.conditions)?,
+            reach: reach.holding(heap, &port.conditions)?,
             goal: Vec::new(heap),
             served: Vec::new(heap),
         })

@@ -12,7 +12,8 @@ use Rattle.rounds.proofs.judging.judge.Goals as goal
 
 pub returns-clause-told : goal.returns-clause-told
 returns-clause-told c =
-    let p : Port = port_of c.in_ok-rounds.rounds.index in
-    subst (λ (q : Port). Judges (domain_of (model_of q)) (vec_items c.finish.new.self.tasks) (vec_items c.in_ok-ranks.ranks)) c.in_ok-rounds.ensures.index
-    (going_done (domain_of (model_of p)) (port_formed p) (vec_items c.finish.new.self.tasks) (vec_items c.finish.new.self.stages) c.finish.new.self.count
-    c.in_ok-finish.ensures.going (vec_items c.in_ok-ranks.ranks) (c.in_ok-ranks.ensures ∙ ap (flat_map rank_row) c.deref.ensures.value))
+    let r = c.loop-rounds.rounds in
+    let p : Port = port_of r.index in
+    subst (λ (q : Port). Judges (domain_of (model_of q)) (vec_items r.tasks) (vec_items c.in_ok-ranks.ranks)) c.loop-rounds.invariant
+    (going_done (domain_of (model_of p)) (port_formed p) (vec_items r.tasks) (vec_items r.stages) r.count r.changed r.going c.loop-rounds-test.false
+    (vec_items c.in_ok-ranks.ranks) (c.in_ok-ranks.ensures ∙ ap (flat_map rank_row) c.deref.ensures.value))

@@ -9,10 +9,12 @@ use Rattle.rounds.proofs.Freshness.{tasks_told}
 use Rattle.rounds.proofs.Goings.{going_start}
 use Rattle.rounds.proofs.judging.Rounds.new.Goals as goal
 
-pub returns-clause-going : goal.returns-clause-going
-returns-clause-going c =
+pub invariant_of-result : goal.invariant_of-result
+invariant_of-result c =
     let p : Port = port_of c.in_ok-index.index in
-    going_start (domain_of (model_of p)) (port_formed p) (vec_items c.in_ok-tasks.tasks) (vec_items c.in_ok-stages.stages)
-    (subst (λ (q : Port). Told (domain_of (model_of q)) (vec_items c.in_ok-tasks.tasks)) (sym c.in_ok-index.ensures)
-    (tasks_told c.args.port.now (vec_items c.in_ok-tasks.tasks) c.in_ok-tasks.ensures))
-    (rw (c.stages.ensures, c.conditions.ensures, p.conditions.ok.0) at c.in_ok-stages.ensures)
+    record {
+      going = going_start (domain_of (model_of p)) (port_formed p) (vec_items c.in_ok-tasks.tasks) (vec_items c.in_ok-stages.stages)
+          (subst (λ (q : Port). Told (domain_of (model_of q)) (vec_items c.in_ok-tasks.tasks)) (sym c.in_ok-index.ensures)
+          (tasks_told c.args.port.now (vec_items c.in_ok-tasks.tasks) c.in_ok-tasks.ensures))
+          (rw (c.stages.ensures, c.conditions.ensures, p.conditions.ok.0) at c.in_ok-stages.ensures);
+    }
