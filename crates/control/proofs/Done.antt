@@ -96,4 +96,4 @@ pub did_refused : {X K Y : Type 0} (k : CostsOf) (e : K → List ℕ) (a : Contr
 did_refused k e a m₀ m is c f (Ok y) x P n h same = absurd h
 did_refused k e a m₀ m is c f (Err y) x P n h same =
     let here = subst (λ (z : ℕ). RulesCall k e a z c (Err x)) is n in
-    (refused (refusal_number y), (refl, (here ∙ ap (λ (z : Refusal). Some (refusal_number z)) (sym (same y h)), refl)))
+    (refl, (refused (refusal_number y), (refl, (here ∙ ap (λ (z : Refusal). Some (refusal_number z)) (sym (same y h)), refl))))

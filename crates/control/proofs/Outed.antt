@@ -1,16 +1,24 @@
 -- What an outing comes to, from what its parts promise.
-use Rattle.std.proofs.Common.{◌≡◌, ℕ, List, None, Option, sym, refl, ◌∙◌, subst}
+use Rattle.std.proofs.Common.{◌≡◌, ℕ, true, not, cond, leb, ◌&&◌, List, length, Some, None, Option, Ok, Err, Result, IsErrAnd, MatchResult, sym, refl, ap, ◌∙◌, subst, arith}
+use Rattle.std.proofs.lemmas.Bool.{le-leb}
 use Rattle.port.specs.Model.{model_of}
 use Rattle.port.specs.Model.{Model as PortModel}
 use Rattle.port.specs.declared.held.Port.{Port}
+use Rattle.plans.specs.Domains.{domain_of}
+use Rattle.plans.specs.Simulation.{Domain}
 use Rattle.costs.specs.Costs.{Model, Laws}
 use Rattle.solver.specs.declared.Entry.{Entry}
-use Rattle.solver.specs.Policy.{Solved}
+use Rattle.solver.specs.Policy.{Solved, world_of}
+use Rattle.solver.specs.Solving.{enough, pairs_of, places_of}
 use Rattle.histories.specs.declared.Command.{Command}
-use Rattle.histories.specs.Calls.{refusal}
+use Rattle.histories.specs.Calls.{refusal, open_rules}
 use Rattle.control.specs.declared.policy.Policy.{Policy}
 use Rattle.control.specs.States.{Answer, State, state}
-use Rattle.control.specs.Outings.{Ready, Stocked, Logged, ShowsAll, Outed, Told}
+use Rattle.control.specs.declared.refusal.Refusal.{Refusal}
+use Rattle.control.specs.declared.tour.OutingError.{OutingError}
+use Rattle.control.specs.declared.tour.OutingError.TheVariants.{Refused}
+use Rattle.control.specs.Numbers.{refusal_number}
+use Rattle.control.specs.Outings.{Failed, Ready, Logged, ShowsAll, Outed, Told}
 use Rattle.control.specs.Worlds.{opening_rules, world, place_in}
 use Rattle.control.proofs.Courses.{retold}
 use Rattle.control.proofs.Opened.{opens_in, promises, opening}
@@ -59,11 +67,37 @@ logged_there {K} k e p' p t' t M s' s o' o ep et es eo m ks rs last l =
     let l3 = subst (λ (x : ℕ). Logged e (world k e p t) (model_of p).conditions M (state x o' m) ks rs last) es l2 in
     subst (λ (x : Option ℕ). Logged e (world k e p t) (model_of p).conditions M (state s x m) ks rs last) eo l3
 
--- tables that a policy shows are those it was made of
-pub stocked : {K : Type 0} (k : Model) (e : K → List ℕ) (p : Port) (t : Policy K) (es : List Entry) (cs : List K) (rs : List ℕ) →
-    t.entries.now ≡ es → t.costs.now ≡ cs → t.ranks.now ≡ rs → Stocked k e p es cs rs →
-    Stocked k e p t.entries.now t.costs.now t.ranks.now
-stocked {K} k e p t es cs rs a b c s =
-    let s1 : Stocked k e p t.entries.now cs rs = subst (λ (x : List Entry). Stocked k e p x cs rs) (sym a) s in
-    let s2 : Stocked k e p t.entries.now t.costs.now rs = subst (λ (x : List K). Stocked k e p t.entries.now x rs) (sym b) s1 in
-    subst (λ (x : List ℕ). Stocked k e p t.entries.now t.costs.now x) (sym c) s2
+-- the world of tables is that of a policy that shows them
+pub solved_there : {K : Type 0} (k : Model) (e : K → List ℕ) (p : Port) (t : Policy K) (es : List Entry) (cs : List K) (rs : List ℕ) →
+    t.entries.now ≡ es → t.costs.now ≡ cs → t.ranks.now ≡ rs → Solved (world_of (domain_of (model_of p)) k e es cs rs) → Solved (world k e p t)
+solved_there {K} k e p t es cs rs a b c s =
+    let s1 : Solved (world_of (domain_of (model_of p)) k e t.entries.now cs rs) =
+    subst (λ (x : List Entry). Solved (world_of (domain_of (model_of p)) k e x cs rs)) (sym a) s in
+    let s2 : Solved (world_of (domain_of (model_of p)) k e t.entries.now t.costs.now rs) =
+    subst (λ (x : List K). Solved (world_of (domain_of (model_of p)) k e t.entries.now x rs)) (sym b) s1 in
+    subst (λ (x : List ℕ). Solved (world_of (domain_of (model_of p)) k e t.entries.now t.costs.now x)) (sym c) s2
+
+-- tables of a port's places and pairs have room for it
+pub roomy : {K : Type 0} (D : Domain) (entries : List Entry) (costs : List K) (ranks : List ℕ) → length entries ≡ places_of D → length costs ≡ places_of D → length ranks ≡ pairs_of D →
+    enough D entries costs ranks ≡ true
+roomy D entries costs ranks a b c =
+    let first = le-leb (places_of D) (length entries) (omega (arith, a)) in
+    let second = le-leb (places_of D) (length costs) (omega (arith, b)) in
+    let third = le-leb (pairs_of D) (length ranks) (omega (arith, c)) in
+    ap (λ x. x && (leb (places_of D) (length costs) && leb (pairs_of D) (length ranks))) first ∙ ap (λ x. x && leb (pairs_of D) (length ranks)) second ∙ third
+
+-- a refused opening over tables that have room, told of the whole outing
+pub barred : {K Y : Type 0} (k : Model) (e : K → List ℕ) (p : Port) (t : Policy K) (m : ℕ) → Solved (world k e p t) →
+    enough (domain_of (model_of p)) t.entries.now t.costs.now t.ranks.now ≡ true → (x : Refusal) → refusal (opening_rules k e p t m) ≡ Some (refusal_number x) →
+    (r : Result Y OutingError) (P : OutingError → Type 0) → IsErrAnd r P → ((y : OutingError) → P y → y ≡ Refused x) → (Q : Y → Type 0) →
+    MatchResult r Q (λ y. Failed k (model_of p) m m y)
+barred k e p t m sv room x h (Ok y) P n same Q = absurd n
+barred k e p t m sv room x h (Err y) P n same Q =
+    subst (λ (z : OutingError). Failed k (model_of p) m m z) (sym (same y n))
+    record {
+      world = world k e p t;
+      ready = ready k e p t sv;
+      refused = sym (ap (λ b. cond b (Some 12) (refusal (open_rules (world k e p t) (model_of p).header.stage (place_in p m)))) (ap not room)) ∙ h;
+      kept = opening k e p t m sv;
+      stays = refl;
+    }

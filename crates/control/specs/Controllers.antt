@@ -1,5 +1,5 @@
 -- What each call does, told of a controller.
-use Rattle.std.specs.Prelude.{ℕ, List}
+use Rattle.std.specs.Prelude.{◌≡◌, ℕ, List}
 use Rattle.port.specs.Model.{model_of}
 use Rattle.port.specs.Model.{Model as PortModel}
 use Rattle.costs.specs.Costs.{Model}
@@ -20,10 +20,10 @@ at_in a m = at_of (model_of a.terms.port.now).conditions (beside a m)
 abbrev pub RulesCall : {X K : Type 0} → Model → (K → List ℕ) → Controller X K → ℕ → Command → Answer K → Type 0
 RulesCall k e a m c r = Ruled e (terms_world k e a.terms) (at_in a m) c r
 
--- A call on controller a over a lock whose port is M leaves controller b, and takes the lock's marks from m to m'.
+-- A call on controller a over a lock whose port is M leaves controller b on the same terms, and takes the lock's marks from m to m'.
 abbrev pub DoesCall : {X K : Type 0} → Model → (K → List ℕ) → PortModel → Controller X K → ℕ → Command → Answer K → Controller X K → ℕ → Type 0
-DoesCall k e M a m c r b m' = Does e (terms_world k e a.terms) (model_of a.terms.port.now).conditions M (beside a m) c r (beside b m')
+DoesCall k e M a m c r b m' = (b.terms ≡ a.terms) × Does e (terms_world k e a.terms) (model_of a.terms.port.now).conditions M (beside a m) c r (beside b m')
 
--- The call is one of a history, with this answer.
+-- The call is one of a history, with this answer, and leaves the controller on the same terms.
 abbrev pub DidCall : {X K : Type 0} → Model → (K → List ℕ) → Controller X K → ℕ → Command → Answer K → Controller X K → ℕ → Type 0
-DidCall k e a m c r b m' = Did e (terms_world k e a.terms) (at_in a m) c r (at_in b m')
+DidCall k e a m c r b m' = (b.terms ≡ a.terms) × Did e (terms_world k e a.terms) (at_in a m) c r (at_in b m')

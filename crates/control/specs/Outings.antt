@@ -1,13 +1,9 @@
 -- Whole outings: the calls that were made, their answers, and the promise over them.
-use Rattle.std.specs.Prelude.{◌≡◌, ℕ, true, List, [], ◌∷◌, map, Some, None, Option}
-use Rattle.port.specs.Model.{model_of}
+use Rattle.std.specs.Prelude.{◌≡◌, ℕ, List, [], ◌∷◌, map, codes, Some, None, Option}
 use Rattle.port.specs.Model.{Model as PortModel}
-use Rattle.port.specs.declared.held.Port.{Port}
 use Rattle.plans.specs.Domains.{domain_of}
 use Rattle.costs.specs.Costs.{Model}
-use Rattle.solver.specs.declared.Entry.{Entry}
-use Rattle.solver.specs.Policy.{World, Solved, world_of}
-use Rattle.solver.specs.Solving.{enough}
+use Rattle.solver.specs.Policy.{World, Solved}
 use Rattle.locks.specs.Places.{place_of}
 use Rattle.histories.specs.declared.Command.{Command}
 use Rattle.histories.specs.Calls.{At, Event, History, Opens, refusal, open_rules, start_at}
@@ -15,7 +11,7 @@ use Rattle.histories.specs.Promise.{Promise, Opening}
 use Rattle.control.specs.declared.refusal.Refusal.{Refusal}
 use Rattle.control.specs.declared.tour.OutingError.{OutingError}
 use Rattle.control.specs.declared.tour.OutingError.TheVariants.{Refused, Memory}
-use Rattle.control.specs.Numbers.{refusal_number}
+use Rattle.control.specs.Numbers.{refusal_number, refusal_text}
 use Rattle.control.specs.States.{Answer, State, state, Does, Shows}
 
 -- One call of an outing.
@@ -60,11 +56,6 @@ pub record Ready (P : PortModel) (k : Model) (w : World) : Type 0 where
   pub under : w.model ≡ k
   pub solved : Solved w
 
--- Tables with room for the port, as solving leaves them.
-pub record Stocked {K : Type 0} (k : Model) (e : K → List ℕ) (p : Port) (entries : List Entry) (costs : List K) (ranks : List ℕ) : Type 0 where
-  pub room : enough (domain_of (model_of p)) entries costs ranks ≡ true
-  pub solved : Solved (world_of (domain_of (model_of p)) k e entries costs ranks)
-
 -- The log of an outing over a lock whose port is M: the answers to the commands, one for one, from an accepted opening. Over a lock of the same port they are a
 -- history with the promise.
 pub record Told {K : Type 0} (k : Model) (e : K → List ℕ) (P M : PortModel) (m : ℕ) (ks : List Command) (m' : ℕ) (rs : List (Answer K)) : Type 0 where
@@ -89,3 +80,8 @@ pub record Barred (k : Model) (P : PortModel) (m m' : ℕ) (r : Refusal) : Type 
 abbrev pub Failed : Model → PortModel → ℕ → ℕ → OutingError → Type 0
 Failed k P m m' (Refused r) = Barred k P m m' r
 Failed k P m m' Memory = m' ≡ m
+
+-- What is printed of why an outing has no log: the opening's refusal, or that there was no memory.
+abbrev pub outing_error_text : OutingError → List ℕ
+outing_error_text (Refused r) = refusal_text r
+outing_error_text Memory = codes "no memory"

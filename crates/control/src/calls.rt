@@ -25,8 +25,7 @@ impl<'a, C: CostModel> Controller<'a, C> {
 
     // Puts a request out, and answers its quote.
     fn put_out<L: Lock>(&mut self, request: u8, lock: &L) -> Result<C::Cost, Refusal>
-        ensures kept { self.new.terms ≡ self.old.terms }
-        ensures did { DidCall C.model C.exact self.old (L.present lock.now) (Command.Ask request) (grant_answer result) self.new (L.present lock.now) }
+        ensures { DidCall C.model C.exact self.old (L.present lock.now) (Command.Ask request) (grant_answer result) self.new (L.present lock.now) }
     {
         match self.rule(Command::Ask(request), lock.marks())? {
             Reply::Granted(quote) => {
@@ -39,7 +38,6 @@ impl<'a, C: CostModel> Controller<'a, C> {
 
     // Asks for a request, which is then out, with a grant for it.
     pub fn ask<L: Lock>(&mut self, request: u8, lock: &L) -> Result<Grant<C::Cost>, Refusal>
-        ensures kept { self.new.terms ≡ self.old.terms }
         ensures did { DidCall C.model C.exact self.old (L.present lock.now) (Command.Ask request) (ask_answer result) self.new (L.present lock.now) }
         ensures granted { IfOk result (λ g. g.request ≡ request) }
     {
@@ -48,6 +46,7 @@ impl<'a, C: CostModel> Controller<'a, C> {
     }
 
     // Works the policy's operation for a request once.
+    // Stays: `home` as a clause: within `DoesCall` it would take one more argument, the lock's port after the call.
     fn work_on<L: Lock>(&self, request: u8, lock: &mut L) -> Result<u8, Refusal>
         ensures home { L.home lock.new ≡ L.home lock.old }
         ensures does { DoesCall C.model C.exact (L.home lock.old) self.now (L.present lock.old) (Command.Step request) (step_answer result) self.now (L.present lock.new) }
@@ -74,8 +73,7 @@ impl<'a, C: CostModel> Controller<'a, C> {
 
     // Ends a request where the entry is there, and goes on to its stage.
     fn finish<L: Lock>(&mut self, request: u8, lock: &L) -> Result<u8, Refusal>
-        ensures kept { self.new.terms ≡ self.old.terms }
-        ensures did { DidCall C.model C.exact self.old (L.present lock.now) (Command.Close request) (finish_answer result) self.new (L.present lock.now) }
+        ensures { DidCall C.model C.exact self.old (L.present lock.now) (Command.Close request) (finish_answer result) self.new (L.present lock.now) }
     {
         match self.rule(Command::Close(request), lock.marks())? {
             Reply::Closed(stage) => {
@@ -93,7 +91,6 @@ impl<'a, C: CostModel> Controller<'a, C> {
         grant: Grant<C::Cost>,
         lock: &L,
     ) -> Result<u8, (Refusal, Grant<C::Cost>)>
-        ensures kept { self.new.terms ≡ self.old.terms }
         ensures did { DidCall C.model C.exact self.old (L.present lock.now) (Command.Close grant.request) (close_answer result) self.new (L.present lock.now) }
         ensures back { IfErr result (λ p. p.1 ≡ grant) }
     {
@@ -120,7 +117,6 @@ impl<'a, C: CostModel> Controller<'a, C> {
 
     // Carries out one command, of whatever kind.
     pub(crate) fn perform<L: Lock>(&mut self, command: Command, lock: &mut L) -> Answer<C::Cost>
-        ensures kept { self.new.terms ≡ self.old.terms }
         ensures home { L.home lock.new ≡ L.home lock.old }
         ensures does { DoesCall C.model C.exact (L.home lock.old) self.old (L.present lock.old) command result self.new (L.present lock.new) }
     {

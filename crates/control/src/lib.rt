@@ -6,7 +6,6 @@ mod calls;
 mod controller;
 mod grant;
 mod opening;
-mod owned;
 mod policy;
 mod refusal;
 mod terms;

@@ -1,5 +1,7 @@
 // A policy as it is handed to a controller.
-use solver::Entry;
+ghost use Rattle.std.specs.Prelude.{◌≡◌};
+
+use solver::{Entry, Tables};
 
 // Entries and costs by request, ranks by stage, and then each by condition: the buffers that solving fills.
 #[derive(Clone, Copy)]
@@ -7,4 +9,19 @@ pub struct Policy<'a, K> {
     pub entries: &'a [Entry],
     pub costs: &'a [K],
     pub ranks: &'a [u16],
+}
+
+impl<'a, K: Copy> Policy<'a, K> {
+    // The policy of a solved port's tables.
+    pub(crate) fn of_tables(tables: &'a Tables<K>) -> Policy<'a, K>
+        ensures entries { result.entries.now ≡ tables.now.entries.items }
+        ensures costs { result.costs.now ≡ tables.now.costs.items }
+        ensures ranks { result.ranks.now ≡ tables.now.ranks.items }
+    {
+        Policy {
+            entries: &tables.entries,
+            costs: &tables.costs,
+            ranks: &tables.ranks,
+        }
+    }
 }

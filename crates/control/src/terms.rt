@@ -11,6 +11,7 @@ use crate::policy::Policy;
 use costs::CostModel;
 use port::Port;
 use solver::{Entry, has_room};
+use tables::item_or;
 
 // A port, and a policy for it.
 #[derive(Drop)]
@@ -59,25 +60,22 @@ impl<'a, C: CostModel> Terms<'a, C> {
     pub(crate) fn entry(&self, request: u8, condition: u8) -> Entry
         ensures { result ≡ (terms_world C.model C.exact self.now).entry request condition }
     {
-        let place = self.place(request, condition);
-        self.policy
-            .entries
-            .get(place)
-            .copied()
-            .unwrap_or(Entry::None)
+        item_or(
+            self.policy.entries,
+            self.place(request, condition),
+            Entry::None,
+        )
     }
 
     pub(crate) fn cost(&self, request: u8, condition: u8) -> C::Cost
         ensures { C.exact result ≡ (terms_world C.model C.exact self.now).cost request condition }
     {
-        let place = self.place(request, condition);
-        self.policy.costs.get(place).copied().unwrap_or(C::zero())
+        item_or(self.policy.costs, self.place(request, condition), C::zero())
     }
 
     pub(crate) fn rank(&self, stage: u8, condition: u8) -> u16
         ensures { result ≡ (terms_world C.model C.exact self.now).rank stage condition }
     {
-        let place = self.place(stage, condition);
-        self.policy.ranks.get(place).copied().unwrap_or(0)
+        item_or(self.policy.ranks, self.place(stage, condition), 0)
     }
 }

@@ -1,20 +1,23 @@
 // A whole outing: solve a port, open a controller over a lock, and carry out commands.
-ghost use Rattle.std.specs.Prelude.{◌≡◌, ◌≤◌, [], length, vec_capacity, MatchResult};
+ghost use Rattle.std.specs.Prelude.{◌≡◌, ◌≤◌, [], length, vec_capacity, MatchResult, Some};
 ghost use Rattle.port.specs.Model.{model_of};
-ghost use Rattle.control.specs.Outings.{Failed, Logged, Told};
+ghost use Rattle.control.specs.Outings.{Failed, Logged, Told, outing_error_text};
 ghost use Rattle.control.specs.States.{state};
 ghost use Rattle.control.specs.Worlds.{terms_world};
 ghost use Rattle.control.specs.declared.tour.OutingError.TheVariants.{Memory, Refused};
 
 use crate::answer::Answer;
 use crate::controller::Controller;
-use crate::owned::solved;
+use crate::policy::Policy;
 use crate::refusal::Refusal;
 use costs::CostModel;
 use histories::Command;
 use locks::Lock;
 use port::Port;
+use solver::solved;
 use std::alloc::{AllocError, Global};
+use std::error::Error;
+use std::fmt;
 
 // Why an outing has no log: the opening was refused, or there was no memory.
 #[derive(Clone, Copy, Debug, PartialEq, Eq)]
@@ -22,6 +25,19 @@ pub enum OutingError {
     Refused(Refusal),
     Memory,
 }
+
+impl fmt::Display for OutingError {
+    ghost output = { λ e. Some (outing_error_text e) };
+
+    fn fmt<W: fmt::Write>(&self, f: &mut fmt::Formatter<W>) -> fmt::Result {
+        match self {
+            OutingError::Refused(refusal) => write!(f, "{refusal}"),
+            OutingError::Memory => write!(f, "no memory"),
+        }
+    }
+}
+
+impl Error for OutingError {}
 
 impl From<AllocError> for OutingError {
     ghost from_gives = { λ _ r. r ≡ Memory };
@@ -65,9 +81,9 @@ pub fn outing<C: CostModel, L: Lock>(
     ensures home { L.home lock.new ≡ L.home lock.old }
     ensures told { MatchResult result (λ log. Told C.model C.exact (model_of port.now) (L.home lock.old) (L.present lock.old) commands.now (L.present lock.new) log.items) (λ e. Failed C.model (model_of port.now) (L.present lock.old) (L.present lock.new) e) }
 {
-    let solved_policy = solved::<C>(heap, port)?;
+    let tables = solved::<C>(heap, port)?;
     let mut log = Vec::with_capacity(heap, commands.len())?;
-    let mut controller = Controller::<C>::open(port, solved_policy.policy(), lock)?;
+    let mut controller = Controller::<C>::open(port, Policy::of_tables(&tables), lock)?;
     controller.run(commands, lock, &mut log);
     Ok(log)
 }

@@ -7,7 +7,7 @@ use costs::{CostModel, Minutes, MoveCount};
 use parts::add_part;
 use port::Port;
 use sheet::{LoadError, load};
-use solver::{Entry, SolveError, Summary, pair_count, place_count, solve};
+use solver::{Summary, Tables, solved};
 use std::alloc::{AllocError, Global};
 use std::fmt::Write;
 
@@ -27,30 +27,22 @@ fn opening(heap: Global, summary: Summary, pairs: usize) -> Result<String, Alloc
     Ok(out)
 }
 
-// Solves the port under a cost model, and adds its part of the page.
-fn add_model<C: CostModel>(
-    heap: Global,
+// The part of the page for a cost model.
+fn add_tables<C: CostModel>(
     port: &Port,
-    ranks: &mut [u16],
+    tables: &Tables<C::Cost>,
     out: &mut String,
-) -> Result<Summary, SolveError> {
-    let places = place_count(port);
-    let mut entries = vec![in heap; Entry::None; places]?;
-    let mut costs = vec![in heap; C::zero(); places]?;
-    let summary = solve::<C>(heap, port, &mut entries, &mut costs, ranks)?;
-    add_part::<C>(port.conditions.len(), &entries, &costs, out)?;
-    Ok(summary)
+) -> Result<(), AllocError> {
+    add_part::<C>(port.conditions.len(), &tables.entries, &tables.costs, out)
 }
 
 // The page of a port.
-fn port_page(heap: Global, port: &Port) -> Result<String, SolveError> {
-    let pairs = pair_count(port);
-    let mut ranks = vec![in heap; 0; pairs]?;
-    let mut parts = String::new(heap);
-    let summary = add_model::<MoveCount>(heap, port, &mut ranks, &mut parts)?;
-    add_model::<Minutes>(heap, port, &mut ranks, &mut parts)?;
-    let mut out = opening(heap, summary, pairs)?;
-    out.push_str(parts.as_str())?;
+fn port_page(heap: Global, port: &Port) -> Result<String, AllocError> {
+    let moves = solved::<MoveCount>(heap, port)?;
+    let minutes = solved::<Minutes>(heap, port)?;
+    let mut out = opening(heap, moves.summary, moves.ranks.len())?;
+    add_tables::<MoveCount>(port, &moves, &mut out)?;
+    add_tables::<Minutes>(port, &minutes, &mut out)?;
     Ok(out)
 }
 
@@ -58,7 +50,7 @@ fn port_page(heap: Global, port: &Port) -> Result<String, SolveError> {
 pub fn page(heap: Global, sheet: &[u8]) -> Result<String, AllocError> {
     let mut port = Port::new(heap)?;
     match load(&mut port, heap, sheet) {
-        Ok(()) => port_page(heap, &port).map_err(|_| AllocError),
+        Ok(()) => port_page(heap, &port),
         Err(LoadError::Memory) => Err(AllocError),
         Err(fault) => format!(in heap; "{fault}\n"),
     }

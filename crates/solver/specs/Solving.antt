@@ -65,6 +65,16 @@ pub record Filled {K : Type 0} (D : Domain) (k : Model) (e : K → List ℕ) (st
   pub rounds : summary.rounds ≡ largest_of (take (pairs_of D) ranks')
   pub start : summary.start ≡ slice_index ranks' start_at
 
+-- The tables have a port's places and pairs and no more, they are filled, and the summary is of the ranks.
+pub record Tabled {K : Type 0} (D : Domain) (k : Model) (e : K → List ℕ) (start_at : ℕ) (entries : List Entry) (costs : List K) (ranks : List ℕ) (summary : Summary) : Type 0 where
+  pub entries_long : length entries ≡ places_of D
+  pub costs_long : length costs ≡ places_of D
+  pub ranks_long : length ranks ≡ pairs_of D
+  pub solved : Solved (world_of D k e entries costs ranks)
+  pub kept : summary.kept ≡ zeros ranks
+  pub rounds : summary.rounds ≡ largest_of ranks
+  pub start : summary.start ≡ slice_index ranks start_at
+
 -- Nothing is written.
 pub record Untouched {K : Type 0} (entries entries' : List Entry) (costs costs' : List K) (ranks ranks' : List ℕ) : Type 0 where
   pub same_entries : entries' ≡ entries

@@ -9,7 +9,8 @@ mod policy;
 mod solution;
 mod write;
 
-pub use solution::{has_room, pair_count, place_count, solve};
+pub use solution::{has_room, pair_count, place_count, solve, solved};
+use std::error::Error;
 use std::fmt;
 
 // What the policy says for a request in a condition: no plan, stop here, or work this operation.
@@ -55,6 +56,15 @@ pub struct Summary {
     pub start: u16,
 }
 
+// The tables of a solved port, whole: entries and costs by request, ranks by stage, and then each by condition; and what they come to.
+#[derive(Drop)]
+pub struct Tables<K: Copy> {
+    pub entries: Vec<Entry>,
+    pub costs: Vec<K>,
+    pub ranks: Vec<u16>,
+    pub summary: Summary,
+}
+
 // Why a port was not solved: a buffer is too short for it, or there was no memory.
 #[derive(Clone, Copy, Debug, PartialEq)]
 pub enum SolveError {
@@ -85,3 +95,5 @@ impl fmt::Display for SolveError {
         }
     }
 }
+
+impl Error for SolveError {}

@@ -2,12 +2,12 @@
 ghost use Rattle.std.specs.Prelude.{◌≡◌, ◌+◌, ◌*◌, ◌&&◌, length, IfOk, nat_le, slice_index};
 ghost use Rattle.plans.specs.Domains.{domain_of};
 ghost use Rattle.port.specs.Model.{model_of};
-ghost use Rattle.solver.specs.Solving.{Outcome, Worked, largest_of, pairs_of, places_of, start_of, zeros};
+ghost use Rattle.solver.specs.Solving.{Outcome, Tabled, Worked, largest_of, pairs_of, places_of, start_of, zeros};
 ghost use Rattle.solver.specs.declared.SolveError.TheVariants.{Memory};
 
 use crate::policy::choose_all;
-use crate::write::{cost_of, count_kept, largest, write};
-use crate::{Entry, SolveError, Summary};
+use crate::write::{costs_of, count_kept, entries_of, largest};
+use crate::{Entry, SolveError, Summary, Tables};
 use costs::CostModel;
 use port::Port;
 use rounds::{Verdict, judge};
@@ -78,6 +78,22 @@ fn summarize(port: &Port, ranks: &[u16]) -> Summary
     }
 }
 
+// Solves the port under a cost model, into tables of its own.
+pub fn solved<C: CostModel>(heap: Global, port: &Port) -> Result<Tables<C::Cost>, AllocError>
+    ensures { IfOk result (λ t. Tabled (domain_of (model_of port.now)) C.model C.exact (start_of (model_of port.now)) t.entries.items t.costs.items t.ranks.items t.summary) }
+{
+    let Solution { choices, ranks } = work_out::<C>(heap, port)?;
+    let entries = entries_of(heap, &choices)?;
+    let costs = costs_of::<C>(heap, &choices)?;
+    let summary = summarize(port, &ranks);
+    Ok(Tables {
+        entries,
+        costs,
+        ranks,
+        summary,
+    })
+}
+
 // Solves the port under a cost model. Entries and costs go by request, ranks by stage, and then each by condition; places past
 // these stay as they were. A buffer that is too short is refused before anything is written, and so is want of memory.
 // Stays: a rule of the project: the call fills buffers of the caller, and refuses one that is too short.
@@ -93,9 +109,9 @@ pub fn solve<C: CostModel>(
     if !has_room(port, entries.len(), costs.len(), ranks.len()) {
         return Err(SolveError::Short);
     }
-    let solution = work_out::<C>(heap, port)?;
-    write(&solution.choices, entries, |choice| Entry::from(choice));
-    write(&solution.choices, costs, |choice| cost_of::<C>(choice));
-    write(&solution.ranks, ranks, |rank| rank);
-    Ok(summarize(port, &solution.ranks))
+    let tables = solved::<C>(heap, port)?;
+    entries[..tables.entries.len()].copy_from_slice(&tables.entries);
+    costs[..tables.costs.len()].copy_from_slice(&tables.costs);
+    ranks[..tables.ranks.len()].copy_from_slice(&tables.ranks);
+    Ok(tables.summary)
 }

@@ -1,11 +1,12 @@
-// What is written to the caller's buffers, and the summary of it.
-ghost use Rattle.std.specs.Prelude.{◌≡◌, ℕ, ◌<◌, ◌≤◌, length, drop as dropped, slice_index_or};
+// What choices are in a policy's tables, and what the ranks come to.
+ghost use Rattle.std.specs.Prelude.{◌≡◌, IfOk, map};
 ghost use Rattle.solver.specs.Choices.{entry_of, exact_of};
 ghost use Rattle.solver.specs.Solving.{largest_of, zeros};
 
 use crate::Entry;
 use costs::CostModel;
 use search::Choice;
+use std::alloc::{AllocError, Global};
 
 impl<K: Copy> From<Choice<K>> for Entry {
     ghost from_gives = { λ choice entry. entry ≡ entry_of choice };
@@ -20,7 +21,7 @@ impl<K: Copy> From<Choice<K>> for Entry {
 }
 
 // The cost of a choice: none where there is nothing to work.
-pub(crate) fn cost_of<C: CostModel>(choice: Choice<C::Cost>) -> C::Cost
+fn cost_of<C: CostModel>(choice: Choice<C::Cost>) -> C::Cost
     ensures { C.exact result ≡ exact_of C.model C.exact choice }
 {
     match choice {
@@ -29,17 +30,30 @@ pub(crate) fn cost_of<C: CostModel>(choice: Choice<C::Cost>) -> C::Cost
     }
 }
 
-// Writes what `make` makes of each item, from the first place on.
-pub(crate) fn write<X: Copy, Y: Copy, F: Fn(X) -> Y>(from: &[X], to: &mut [Y], make: F)
-    requires room { length from.now ≤ length to.old }
-    requires callable { F.IsAlwaysCallable make }
-    ensures fits { length from.now ≤ length to.new }
-    ensures here { (i : ℕ) (x : X) (y : Y) → i < length from.now → F.post make (slice_index_or from.now i x) (slice_index_or to.new i y) }
-    ensures rest { dropped (length from.now) to.new ≡ dropped (length from.now) to.old }
+// The entry of each choice.
+pub(crate) fn entries_of<K: Copy>(
+    heap: Global,
+    choices: &[Choice<K>],
+) -> Result<Vec<Entry>, AllocError>
+    ensures { IfOk result (λ v. v.items ≡ map entry_of choices.now) }
 {
-    for (i, x) in from.iter().enumerate() {
-        to[i] = make(*x);
-    }
+    choices
+        .iter()
+        .map(|choice| Entry::from(*choice))
+        .collect(heap)
+}
+
+// The cost of each choice.
+pub(crate) fn costs_of<C: CostModel>(
+    heap: Global,
+    choices: &[Choice<C::Cost>],
+) -> Result<Vec<C::Cost>, AllocError>
+    ensures { IfOk result (λ v. map C.exact v.items ≡ map (exact_of C.model C.exact) choices.now) }
+{
+    choices
+        .iter()
+        .map(|choice| cost_of::<C>(*choice))
+        .collect(heap)
 }
 
 // How many of the ranks are 0.

@@ -56,6 +56,7 @@ fn show_answer(rt: &HostRuntime, answer: Result<Summary, SolveError>) -> anyhow:
 }
 
 // Solves the port, first with a buffer too short for the ranks, then with room for all.
+// Stays: the solve into buffers of its own, since `solved` has no refusal to show.
 pub(crate) fn show_policy<C: CostModel>(rt: &HostRuntime, port: &Port) -> anyhow::Result<()> {
     let heap = rt.alloc();
     let places = place_count(port);

@@ -1,6 +1,8 @@
-use Rattle.std.proofs.Common.{None, ap}
+use Rattle.std.proofs.Common.{length, None, ap, ◌∙◌, rules}
+use Rattle.port.specs.Model.{model_of}
+use Rattle.plans.specs.Domains.{domain_of}
 use Rattle.control.specs.Controllers.{beside}
-use Rattle.control.proofs.Outed.{stocked, logged_there, told}
+use Rattle.control.proofs.Outed.{barred, logged_there, roomy, solved_there, told}
 use Rattle.control.proofs.tour.outing.Goals as goal
 
 pub returns-clause-told : goal.returns-clause-told
@@ -8,7 +10,7 @@ returns-clause-told g c =
     let k = g.C.CostModel.model in
     let e = g.C.CostModel.exact in
     let p = c.args.port.now in
-    let t = c.policy.result in
+    let t = c.of_tables.result in
     let M = g.L.Lock.home c.args.lock.now in
     let m = g.L.Lock.present c.args.lock.now in
     let ks = c.args.commands.now in
@@ -16,7 +18,23 @@ returns-clause-told g c =
     let a = c.in_ok-controller.controller in
     let o = c.in_ok-controller.ensures.opened in
     let last = beside c.run.new.self (g.L.Lock.present c.run.new.lock) in
-    let s = stocked k e p t _ _ _ c.policy.ensures.entries c.policy.ensures.costs c.policy.ensures.ranks c.in_ok-solved_policy.ensures in
-    told k e p t s.solved g.C.CostModel.laws M m ks rs last o.4
+    let s = solved_there k e p t _ _ _ c.of_tables.ensures.entries c.of_tables.ensures.costs c.of_tables.ensures.ranks c.in_ok-tables.ensures.solved in
+    told k e p t s g.C.CostModel.laws M m ks rs last o.4
     (logged_there k e a.terms.port.now p a.terms.policy t M a.stage p.header.stage a.out None (ap (λ x. x.now) o.0) o.1 o.2 o.3 m ks rs last
     c.run.ensures.logged)
+
+pub returns-in_err-controller-clause-told : goal.returns-in_err-controller-clause-told
+returns-in_err-controller-clause-told g c =
+    let k = g.C.CostModel.model in
+    let e = g.C.CostModel.exact in
+    let p = c.args.port.now in
+    let t = c.of_tables.result in
+    let m = g.L.Lock.present c.args.lock.now in
+    let d = c.in_ok-tables.ensures in
+    let same = c.of_tables.ensures in
+    let s = solved_there k e p t _ _ _ same.entries same.costs same.ranks d.solved in
+    let room =
+    roomy (domain_of (model_of p)) t.entries.now t.costs.now t.ranks.now (ap length same.entries ∙ d.entries_long) (ap length same.costs ∙ d.costs_long)
+    (ap length same.ranks ∙ d.ranks_long) in
+    barred k e p t m s room c.in_err-controller.field-0.0 c.in_err-controller.ensures.opened c.from_residual-in_err-controller.result _
+    c.from_residual-in_err-controller.ensures.1 (λ y h. search rules) _

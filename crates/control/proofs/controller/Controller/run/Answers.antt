@@ -32,12 +32,12 @@ loop-command-preserved g c =
     let inv = c.loop-command.invariant in
     let pushed : is_ok c.push.result ≡ true = ap is_ok c.unwrap.ensures in
     let does =
-    does_there k e c.loop-command.self.terms t (g.L.Lock.home c.loop-command.lock) M inv.kept inv.home at one r after c.perform-answer.ensures.does in
+    does_there k e c.loop-command.self.terms t (g.L.Lock.home c.loop-command.lock) M inv.kept inv.home at one r after c.perform-answer.ensures.does.1 in
     let more = logged_more e w cs M start at after (take i ks) log.items one r inv.logged does in
     let asked : Logged e w cs M start (take (i + 1) ks) (log.items ++ (r ∷ [])) after =
     subst (λ (x : List Command). Logged e w cs M start x (log.items ++ (r ∷ [])) after) (sym (take_more ks i (Quote 0) c.loop-command-test.true)) more in
     record {
-      kept = c.perform-answer.ensures.kept ∙ inv.kept;
+      kept = c.perform-answer.ensures.does.0 ∙ inv.kept;
       home = c.perform-answer.ensures.home ∙ inv.home;
       long = chosen _ _ _ _ pushed c.push.ensures.len ∙ ap (λ (x : ℕ). x + 1) inv.long;
       room = omega (arith, inv.room, c.push.ensures.capacity);
