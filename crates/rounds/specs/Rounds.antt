@@ -58,7 +58,7 @@ pub record Turned (D : Domain) (before : List Stage) (tasks : List Task) (stages
   pub left : (s c : ℕ) → InRange D s c → next_in stages s c ≡ (left_in before s c && all_served D (serving D (left_in before)) i s c)
 
 -- After some rounds, the last of which took a pair out or didn't: the pairs that are left, the ranks of all, and, once a round took none
--- out, that what is left is kept.
+-- out, that what is left is kept. Of a rank and of what is kept it says that there is a proof (∥ .. ∥₁), not which.
 pub record Judged (D : Domain) (alive : ℕ → ℕ → Bool) (rank : ℕ → ℕ → ℕ) (rounds : ℕ) (changed : Bool) : Type 0 where
   pub alike : (s c : ℕ) → InRange D s c → alive s c ≡ left D rounds s c
   pub ranked : (s c : ℕ) → InRange D s c → alive s c ≡ false → ∥ Rank D s c (rank s c) ∥₁

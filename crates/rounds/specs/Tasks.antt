@@ -52,7 +52,7 @@ pub record SameTexts (before after : Task) : Type 0 where
   pub reach : after.reach ≡ before.reach
 
 -- The task's rows are up to date with the pairs `alive` of its to-stage: it may end where its reach holds and the pair is left, and it
--- can be served from where some plan attains that.
+-- can be served from where there is a plan that attains that (∥ .. ∥₁), whichever it is.
 pub record Fresh (D : Domain) (alive : List Bool) (t : Task) : Type 0 where
   pub goal_long : length (vec_items t.goal) ≡ D.conditions
   pub served_long : length (vec_items t.served) ≡ D.conditions

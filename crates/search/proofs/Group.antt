@@ -1,5 +1,5 @@
 -- The greatest of a group of moves, and the least over the groups.
-use Rattle.std.proofs.Common.{◌≡◌, ℕ, ◌+◌, ◌<◌, ◌≤◌, Bool, true, false, cond, not, T, ◌⊎◌, List, length, take, Some, None, Decides, Option, sym, refl, ap, ◌∙◌, subst, inl, inr, ⊎_elim, arith, take_all}
+use Rattle.std.proofs.Common.{◌≡◌, ℕ, ◌+◌, ◌<◌, Bool, true, false, cond, not, T, ◌⊎◌, List, length, take, Some, None, Decides, Option, sym, refl, ap, ◌∙◌, subst, inl, inr, ⊎_elim, arith}
 use Rattle.std.proofs.lemmas.Bool.{cases_lt}
 use Rattle.port.specs.Limits.{In, no_move, at}
 use Rattle.port.specs.declared.Move.{Move}
@@ -33,10 +33,6 @@ module _ {k : Model} (laws : WeakLaws k) (V : ℕ → Option (List ℕ)) (good :
       go false q =
           worst_old laws (After V) sized (at ms i) a g (front_in no_move ms i l) (front_split no_move ms i l) e w
           (not_within _ g (laws.join_sized (at ms i) a (good _ a e)) (worst_sized laws (After V) sized g w) q)
-
-  pub topped_all : (ms : List Move) (i : ℕ) → length ms ≤ i → (x : Option (List ℕ)) → Topped k V ms i x → Greatest k V ms x
-  topped_all ms i l None z = λ f w. let p = in_at no_move ms w.top.0 w.top.1 in let q = p.1 in omega arith
-  topped_all ms i l (Some f) w = subst (λ (xs : List Move). Worst k (After V) (λ m. In m xs) f) (take_all i ms l) w
 
   pub missing : (ms : List Move) (i : ℕ) → i < length ms → V (at ms i).outcome ≡ None → Greatest k V ms None
   missing ms i l e f w = none_some (sym e ∙ (w.each (at ms i) (in_get_d no_move ms i l)).1)

@@ -6,7 +6,7 @@ use Rattle.search.specs.Groups.{Topped}
 use Rattle.costs.specs.Compare.{topped, shown}
 use Rattle.search.specs.Labels.{Greatest}
 use Rattle.tables.specs.Tables.{looked}
-use Rattle.search.proofs.Group.{topped_more, topped_all, missing}
+use Rattle.search.proofs.Group.{topped_more, missing}
 use Rattle.costs.proofs.Order.{weaken}
 use Rattle.tables.proofs.Options.{looked_sized}
 use Rattle.search.proofs.known.Known.worst.Goals as goal
@@ -34,9 +34,3 @@ loop-m-preserved g c =
     ∥∥₁_elim c.args.self.now.few (search props) (λ few. c.extend.ensures (few _ _ has)) in
     subst (λ x. Topped k.model V ms (i + 1) (Some x)) (sym new)
     (topped_more (weaken k.laws) V (looked_sized k.model k.exact g.met.C.CostModel.sized cs) ms i _ c.loop-m-test.true (ap (shown k.exact) has) _ c.loop-m.invariant)
-
-pub returns : goal.returns
-returns g c =
-    let k = g.C.CostModel in
-    let cs = c.args.self.now.costs.now in
-    topped_all (weaken k.laws) (looked k.exact cs) (looked_sized k.model k.exact g.met.C.CostModel.sized cs) c.args.moves.now c.loop-m.m-index c.loop-m-test.false _ c.loop-m.invariant
