@@ -4,6 +4,7 @@ ghost use Rattle.std.specs.Prelude.{◌≡◌};
 use solver::{Entry, Tables};
 
 // Entries and costs by request, ranks by stage, and then each by condition: the buffers that solving fills.
+// Stays: beside solver's `Tables`, which owns its tables: a controller takes slices of any caller.
 #[derive(Clone, Copy)]
 pub struct Policy<'a, K> {
     pub entries: &'a [Entry],
