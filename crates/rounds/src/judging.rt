@@ -125,6 +125,7 @@ pub fn judge<'a>(heap: Global, port: &'a Port) -> Result<Verdict<'a>, AllocError
     ensures told { IfOk result (λ v. Judges (domain_of (model_of port.now)) v.tasks.items v.ranks.items) }
 {
     let mut rounds = Rounds::new(heap, port)?;
+    // Stays: how many rounds there are is known only once one takes nothing out.
     while rounds.changed {
         rounds = rounds.run(heap)?;
     }

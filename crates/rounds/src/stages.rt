@@ -26,6 +26,7 @@ fn note(alive: &[bool], next: &[bool], round: u16, ranks: &mut [u16])
     requires next { length next.now ≡ length ranks.old }
     ensures { (c : ℕ) → c < length ranks.old → slice_index ranks.new c ≡ cond (has alive.now c && not (has next.now c)) round (slice_index ranks.old c) }
 {
+    // Stays: by the condition's number, since of what is zipped with `iter_mut` a proof knows no element.
     for (c, rank) in ranks.iter_mut().enumerate() {
         if alive[c] && !next[c] {
             *rank = round;
@@ -74,6 +75,7 @@ pub(crate) fn stages_of(
     ensures { IfOk result (λ v. StagesNew stages conditions v.items) }
 {
     let mut all = Vec::new(heap);
+    // Stays: a push for each, since std says nothing of what a chain of Results collects.
     for _ in 0..stages {
         all.push(Stage::new(heap, conditions)?)?;
     }

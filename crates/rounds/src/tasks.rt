@@ -91,6 +91,7 @@ pub(crate) fn tasks_of(heap: Global, port: &Port) -> Result<Vec<Task>, AllocErro
     ensures { IfOk result (λ v. TasksOf port.now v.items) }
 {
     let mut tasks = Vec::new(heap);
+    // Stays: a push for each, since std says nothing of what a chain of Results collects.
     for request in &port.requests {
         tasks.push(Task::new(heap, port, request)?)?;
     }

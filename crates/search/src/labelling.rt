@@ -42,6 +42,7 @@ fn solve<'a, C: CostModel>(
         costs: &costs,
     };
     let mut offers = known.offers(heap)?;
+    // Stays: the offers change with each label, so that no iterator can go over them.
     while let Some(label) = least::<C>(&offers) {
         costs[label.condition] = Some(label.cost);
         offers[label.condition] = None;

@@ -11,7 +11,7 @@ pub use index::MoveIndex;
 pub use labelling::search;
 
 // What to do in a condition: there is no plan, the goal holds, or work an operation at this cost.
-// Stays: each reader tells all three apart, and an Option of the last two would be matched twice.
+// Stays: three cases, which readers group in different ways (no plan or some; no work or some), so that no one Option fits.
 #[derive(Clone, Copy)]
 pub enum Choice<K> {
     None,

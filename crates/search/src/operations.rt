@@ -19,6 +19,7 @@ impl<C: CostModel> Known<'_, '_, '_, C> {
         ensures { Greatest C.model (looked C.exact self.now.costs.now) moves.now (shown C.exact result) }
     {
         let mut top = None;
+        // Stays: a `try_fold` would have the same two steps, and the same `?`, in its closure.
         for m in moves {
             let c = cost_after(self.costs, m)?;
             top = Some(extend::<C>(m, c, top));

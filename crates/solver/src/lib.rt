@@ -14,7 +14,8 @@ use std::error::Error;
 use std::fmt;
 
 // What the policy says for a request in a condition: no plan, stop here, or work this operation.
-// Stays: each reader tells all three apart, and an Option of the last two would be matched twice.
+// Stays: three cases, which readers group in different ways, so that no one Option fits. It is search's `Choice` without the cost, since
+// entries and costs stand in two buffers of a caller.
 #[derive(Clone, Copy, Debug, PartialEq)]
 pub enum Entry {
     None,
