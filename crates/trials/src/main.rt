@@ -6,14 +6,9 @@ use std::alloc::{AllocError, Global};
 use std::io::{BufRead, BufReader};
 
 // The value of a hex digit.
-// Stays: the kit's crate for hex would be one more whose statements this repository trusts.
 fn digit(b: u8) -> Option<u8> {
-    match b {
-        b'0'..=b'9' => Some(b - b'0'),
-        b'a'..=b'f' => Some(b - b'a' + 10),
-        b'A'..=b'F' => Some(b - b'A' + 10),
-        _ => None,
-    }
+    let value = char::from(b).to_digit(16)?;
+    u8::try_from(value).ok()
 }
 
 // The bytes that a line of hex tells, or none where it is no hex.
