@@ -2,7 +2,7 @@
 ghost use Rattle.std.specs.Prelude.{◌≡◌, ◌+◌, ◌<◌, ◌≤◌, IfOk, nat_le, nat_lt};
 ghost use Rattle.faults.specs.declared.layers.PortFault.TheVariants.{Record};
 ghost use Rattle.faults.specs.declared.layers.RecordFault.TheVariants.{Byte};
-ghost use Rattle.reading.specs.Reading.{both, byte, bytes, same};
+ghost use Rattle.reading.specs.Reading.{both, byte, bytes};
 ghost use Rattle.reader.specs.Reads.{Reads, counted, itself};
 
 use crate::reader::Reader;
@@ -64,11 +64,4 @@ fn is_count(value: u8, most: u8) -> bool
     ensures { result ≡ both (nat_lt 0 value) (nat_le value most) }
 {
     (1..=most).contains(&value)
-}
-
-// Whether these are those bytes.
-pub(crate) fn is_same(these: &[u8], those: &[u8]) -> bool
-    ensures { result ≡ same these.now those.now }
-{
-    these == those
 }

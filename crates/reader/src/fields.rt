@@ -4,7 +4,6 @@ ghost use Rattle.faults.specs.declared.layers.PortFault.TheVariants.{Record};
 ghost use Rattle.reading.specs.Reading.{number, field, minutes, text, whole_text};
 ghost use Rattle.reader.specs.Reads.{Reads, itself};
 
-use crate::bytes::is_same;
 use crate::reader::Reader;
 use crate::text::{SheetText, TextAt};
 use faults::{PortFault, RecordFault};
@@ -12,8 +11,9 @@ use faults::{PortFault, RecordFault};
 // The most bytes of a text.
 const TEXT_BYTES: u8 = 63;
 
-// Stays: `present` is what the definitions of a field take too, and each call answers one of them; the same for `next_number` and
-// `next_minutes`, of one byte and of two.
+// Stays: `present` is a bit of the map byte. No value stands beside it, and whether one is read, and where a fault of it stands, is what it
+// decides: an `Option` could hold nothing before the call.
+// Stays: `next_number` and `next_minutes`, of one byte and of two, are each one definition of how a field reads.
 impl<'a> Reader<'a> {
     // A number of one byte, which is not 0 where it is present.
     pub(crate) fn next_number(&mut self, present: bool) -> Result<u8, RecordFault>
@@ -73,7 +73,7 @@ impl<'a> Reader<'a> {
         let length = self.next_counted(TEXT_BYTES, PortFault::Missing(length_place))?;
         let place = self.place;
         let bytes = self.next_bytes(length as usize)?;
-        if is_same(bytes, b"1") {
+        if bytes == b"1".as_slice() {
             return Err(PortFault::Record(RecordFault::Absent(length_place)));
         }
         let text = SheetText { bytes };

@@ -5,7 +5,6 @@ ghost use Rattle.faults.specs.declared.layers.RecordFault.TheVariants.{Byte};
 ghost use Rattle.reading.specs.Reading.{opening, count, start_stage, heading};
 ghost use Rattle.reader.specs.Reads.{Reads, itself};
 
-use crate::bytes::is_same;
 use crate::reader::Reader;
 use faults::{ByteFault, PortFault};
 use port::Header;
@@ -26,7 +25,7 @@ impl<'a> Reader<'a> {
         ensures { Reads opening (λ x. x.now) (λ e. Record (Byte e)) self.old self.new result }
     {
         let bytes = self.next_bytes(4)?;
-        if !is_same(bytes, OPENING.as_slice()) {
+        if bytes != OPENING.as_slice() {
             return Err(ByteFault::Opening);
         }
         Ok(bytes)

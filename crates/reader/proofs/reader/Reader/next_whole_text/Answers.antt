@@ -1,8 +1,9 @@
-use Rattle.std.proofs.Common.{sym, ap, ◌∙◌, arith}
+use Rattle.std.proofs.Common.{ap, ◌∙◌, arith}
 use Rattle.formula.proofs.Exits.{exit}
 use Rattle.reading.specs.Reading.{whole_text, text_length, denied}
 use Rattle.reader.specs.Reads.{counted}
 use Rattle.reading.proofs.Steps.{then_got, then_fault, passed, failed, bytes_place}
+use Rattle.reader.proofs.Compared.{compared}
 use Rattle.reader.proofs.reader.Reader.next_whole_text.Goals as goal
 
 pub returns-in_err-length-clause-read : goal.returns-in_err-length-clause-read
@@ -15,11 +16,11 @@ unfolding whole_text text_length counted
 returns-in_err-bytes-clause-read c =
     rw (exit _ c.from_residual-in_err-bytes.ensures.1) (then_got _ c.in_ok-length.ensures.read ∙ then_fault _ c.in_err-bytes.ensures)
 
-pub returns-then-is_same : goal.returns-then-is_same
+pub returns-then-eq : goal.returns-then-eq
 unfolding whole_text text_length counted
-returns-then-is_same c =
+returns-then-eq c =
     record {
-      read = then_got _ c.in_ok-length.ensures.read ∙ then_got _ c.in_ok-bytes.ensures ∙ failed _ _ (ap denied (sym c.is_same.ensures ∙ c.if-is_same.true));
+      read = then_got _ c.in_ok-length.ensures.read ∙ then_got _ c.in_ok-bytes.ensures ∙ failed _ _ (ap denied (compared c.in_ok-bytes.bytes.now c.as_slice.ensures c.eq.ensures ∙ c.if-eq.true));
       stands = tt;
     }
 
@@ -37,6 +38,6 @@ pub returns : goal.returns
 unfolding whole_text text_length counted
 returns c =
     record {
-      read = then_got _ c.in_ok-length.ensures.read ∙ then_got _ c.in_ok-bytes.ensures ∙ passed _ _ (ap denied (sym c.is_same.ensures ∙ c.if-is_same.false));
+      read = then_got _ c.in_ok-length.ensures.read ∙ then_got _ c.in_ok-bytes.ensures ∙ passed _ _ (ap denied (compared c.in_ok-bytes.bytes.now c.as_slice.ensures c.eq.ensures ∙ c.if-eq.false));
       stands = c.in_ok-length.ensures.limits.2;
     }
