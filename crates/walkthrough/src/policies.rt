@@ -5,37 +5,17 @@ use costs::{CostModel, Named};
 use port::Port;
 use solver::{Entry, SolveError, Summary, pair_count, place_count, solve};
 
-// The ranks of a stage, a line for each condition.
-fn show_stage(rt: &HostRuntime, stage: usize, ranks: &[u16]) -> anyhow::Result<()> {
-    for (condition, rank) in ranks.iter().enumerate() {
-        println!(rt; "  stage {stage} condition {condition} rank {rank}")?;
-    }
-    Ok(())
-}
-
-// The entries of a request, a line for each condition.
-fn show_request(rt: &HostRuntime, request: usize, entries: &[Entry]) -> anyhow::Result<()> {
-    for (condition, entry) in entries.iter().enumerate() {
-        let byte = entry.byte();
-        println!(rt; "  request {request} condition {condition} entry {byte}: {entry}")?;
-    }
-    Ok(())
-}
-
-// The ranks by stage, and the entries by request.
-fn show_tables(
-    rt: &HostRuntime,
+// Shows a table with `width` items in a row: each item with the number of its row and of its place there.
+fn show_table<T: Copy, F: Fn(usize, usize, T) -> anyhow::Result<()>>(
     width: usize,
-    ranks: &[u16],
-    entries: &[Entry],
+    items: &[T],
+    show: F,
 ) -> anyhow::Result<()>
-    requires { 0 < width }
+    requires row { 0 < width }
+    requires show { F.IsAlwaysCallable show }
 {
-    for (stage, row) in ranks.chunks(width).enumerate() {
-        show_stage(rt, stage, row)?;
-    }
-    for (request, row) in entries.chunks(width).enumerate() {
-        show_request(rt, request, row)?;
+    for (place, item) in items.iter().enumerate() {
+        show(place / width, place % width, *item)?;
     }
     Ok(())
 }
@@ -75,5 +55,14 @@ pub(crate) fn show_policy<C: CostModel>(rt: &HostRuntime, port: &Port) -> anyhow
         rt,
         solve::<C>(heap, port, &mut entries, &mut costs, &mut ranks),
     )?;
-    show_tables(rt, port.conditions.len(), &ranks, &entries)
+    let width = port.conditions.len();
+    show_table(width, &ranks, |stage, condition, rank| {
+        println!(rt; "  stage {stage} condition {condition} rank {rank}")?;
+        Ok(())
+    })?;
+    show_table(width, &entries, |request, condition, entry| {
+        let byte = entry.byte();
+        println!(rt; "  request {request} condition {condition} entry {byte}: {entry}")?;
+        Ok(())
+    })
 }
