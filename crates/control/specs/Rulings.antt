@@ -3,7 +3,7 @@ use Rattle.std.specs.Prelude.{◌≡◌, ℕ, ◌<◌, true, not, List, [], ◌�
 use Rattle.plans.specs.Flags.{task_at}
 use Rattle.solver.specs.declared.Entry.TheVariants.{Work}
 use Rattle.solver.specs.Policy.{World}
-use Rattle.histories.specs.Calls.{Rule, rule, refusal, offered, placed}
+use Rattle.histories.specs.Calls.{Rule, rule, refusal, offered, placed, cost_at}
 use Rattle.control.specs.declared.refusal.Refusal.{Refusal}
 use Rattle.control.specs.Numbers.{refusal_number}
 
@@ -27,10 +27,14 @@ abbrev pub Found : {X : Type 0} → List Rule → (X → Type 0) → Result X Re
 Found rs P (Ok x) = (refusal rs ≡ None) × P x
 Found rs P (Err e) = refusal rs ≡ Some (refusal_number e)
 
+-- The policy's cost for request q at p is x.
+abbrev pub Priced : {K : Type 0} → (K → List ℕ) → World → Option ℕ → ℕ → K → Type 0
+Priced e w p q x = e x ≡ cost_at w q p
+
 -- The policy's entry for request q at p is to work operation o.
 abbrev pub Next : World → Option ℕ → ℕ → ℕ → Type 0
 Next w p q o = (c : ℕ) × ((p ≡ Some c) × (w.entry q c ≡ Work o))
 
--- The stage that request q leads to.
-abbrev pub Target : World → ℕ → ℕ → Type 0
-Target w q s = s ≡ (task_at w.domain q).to
+-- The stage that request q leads to is s.
+abbrev pub Target : World → Option ℕ → ℕ → ℕ → Type 0
+Target w _ q s = s ≡ (task_at w.domain q).to

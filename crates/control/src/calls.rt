@@ -12,28 +12,28 @@ use costs::CostModel;
 use histories::Command;
 use locks::Lock;
 
+// Stays: each call takes its own reply out of what `rule` comes to. It is a rule of the project that one match, on what is out and on the
+// command together, decides on every call; to go by `rule_quote` and its like directly would put tests of what is out beside it.
 impl<'a, C: CostModel> Controller<'a, C> {
     // What a request would cost: the policy's cost for it, where the lock stands.
     pub fn quote<L: Lock>(&self, request: u8, lock: &L) -> Result<C::Cost, Refusal>
         ensures { DidCall C.model C.exact self.now (L.present lock.now) (Command.Quote request) (quote_answer result) self.now (L.present lock.now) }
     {
-        match self.rule(Command::Quote(request), lock.marks())? {
-            Reply::Quoted(quote) => Ok(quote),
-            _ => unreachable!(),
-        }
+        let Reply::Quoted(quote) = self.rule(Command::Quote(request), lock.marks())? else {
+            unreachable!()
+        };
+        Ok(quote)
     }
 
     // Puts a request out, and answers its quote.
     fn put_out<L: Lock>(&mut self, request: u8, lock: &L) -> Result<C::Cost, Refusal>
         ensures { DidCall C.model C.exact self.old (L.present lock.now) (Command.Ask request) (grant_answer result) self.new (L.present lock.now) }
     {
-        match self.rule(Command::Ask(request), lock.marks())? {
-            Reply::Granted(quote) => {
-                self.out = Some(request);
-                Ok(quote)
-            }
-            _ => unreachable!(),
-        }
+        let Reply::Granted(quote) = self.rule(Command::Ask(request), lock.marks())? else {
+            unreachable!()
+        };
+        self.out = Some(request);
+        Ok(quote)
     }
 
     // Asks for a request, which is then out, with a grant for it.
@@ -51,15 +51,13 @@ impl<'a, C: CostModel> Controller<'a, C> {
         ensures home { L.home lock.new ≡ L.home lock.old }
         ensures does { DoesCall C.model C.exact (L.home lock.old) self.now (L.present lock.old) (Command.Step request) (step_answer result) self.now (L.present lock.new) }
     {
-        match self.rule(Command::Step(request), lock.marks())? {
-            Reply::Worked(operation) => {
-                if !lock.work(operation) {
-                    return Err(Refusal::Stuck);
-                }
-                Ok(operation)
-            }
-            _ => unreachable!(),
+        let Reply::Worked(operation) = self.rule(Command::Step(request), lock.marks())? else {
+            unreachable!()
+        };
+        if !lock.work(operation) {
+            return Err(Refusal::Stuck);
         }
+        Ok(operation)
     }
 
     // Works the policy's operation for the grant's request once, and answers it.
@@ -75,14 +73,12 @@ impl<'a, C: CostModel> Controller<'a, C> {
     fn finish<L: Lock>(&mut self, request: u8, lock: &L) -> Result<u8, Refusal>
         ensures { DidCall C.model C.exact self.old (L.present lock.now) (Command.Close request) (finish_answer result) self.new (L.present lock.now) }
     {
-        match self.rule(Command::Close(request), lock.marks())? {
-            Reply::Closed(stage) => {
-                self.out = None;
-                self.stage = stage;
-                Ok(stage)
-            }
-            _ => unreachable!(),
-        }
+        let Reply::Closed(stage) = self.rule(Command::Close(request), lock.marks())? else {
+            unreachable!()
+        };
+        self.out = None;
+        self.stage = stage;
+        Ok(stage)
     }
 
     // Closes the grant's request, and answers the stage gone on to. A refused close gives the grant back.

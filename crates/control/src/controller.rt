@@ -1,8 +1,7 @@
 // A controller: it decides on each command by its policy, and does what it decides.
-ghost use Rattle.std.specs.Prelude.{◌≡◌};
-ghost use Rattle.histories.specs.Calls.{ask_rules, close_rules, cost_at, quote_rules, step_rules};
-ghost use Rattle.control.specs.Rulings.{Found, Next, Spotted, Target};
-ghost use Rattle.control.specs.Controllers.{RulesCall};
+ghost use Rattle.histories.specs.Calls.{ask_rules, close_rules, quote_rules, step_rules};
+ghost use Rattle.control.specs.Rulings.{Next, Priced, Spotted, Target};
+ghost use Rattle.control.specs.Controllers.{FindsCall, RulesCall};
 ghost use Rattle.control.specs.Worlds.{place_in, terms_world};
 
 use crate::answer::{Answer, Reply};
@@ -34,7 +33,7 @@ impl<'a, C: CostModel> Controller<'a, C> {
 
     // What a request would cost.
     fn rule_quote(&self, request: u8, marks: u16) -> Result<C::Cost, Refusal>
-        ensures { let w = terms_world C.model C.exact self.now.terms in let p = place_in self.now.terms.port.now marks in Found (quote_rules w self.now.stage p request) (λ x. C.exact x ≡ cost_at w request p) result }
+        ensures { FindsCall C.model C.exact self.now request marks quote_rules (Priced C.exact) result }
     {
         let condition = self.spot(request, marks)?;
         match self.terms.entry(request, condition) {
@@ -45,7 +44,7 @@ impl<'a, C: CostModel> Controller<'a, C> {
 
     // The quote of a grant.
     fn rule_ask(&self, request: u8, marks: u16) -> Result<C::Cost, Refusal>
-        ensures { let w = terms_world C.model C.exact self.now.terms in let p = place_in self.now.terms.port.now marks in Found (ask_rules w self.now.stage p request) (λ x. C.exact x ≡ cost_at w request p) result }
+        ensures { FindsCall C.model C.exact self.now request marks ask_rules (Priced C.exact) result }
     {
         let condition = self.spot(request, marks)?;
         match self.terms.entry(request, condition) {
@@ -59,7 +58,7 @@ impl<'a, C: CostModel> Controller<'a, C> {
 
     // The operation to work next.
     fn rule_step(&self, request: u8, marks: u16) -> Result<u8, Refusal>
-        ensures { let w = terms_world C.model C.exact self.now.terms in let p = place_in self.now.terms.port.now marks in Found (step_rules w self.now.stage p request) (Next w p request) result }
+        ensures { FindsCall C.model C.exact self.now request marks step_rules Next result }
     {
         let condition = self.spot(request, marks)?;
         match self.terms.entry(request, condition) {
@@ -74,7 +73,7 @@ impl<'a, C: CostModel> Controller<'a, C> {
 
     // The stage to go on to.
     fn rule_close(&self, request: u8, marks: u16) -> Result<u8, Refusal>
-        ensures { let w = terms_world C.model C.exact self.now.terms in let p = place_in self.now.terms.port.now marks in Found (close_rules w self.now.stage p request) (Target w request) result }
+        ensures { FindsCall C.model C.exact self.now request marks close_rules Target result }
     {
         let condition = self.spot(request, marks)?;
         match self.terms.entry(request, condition) {
