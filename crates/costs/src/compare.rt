@@ -31,7 +31,7 @@ pub fn under<C: CostModel>(x: Option<C::Cost>, y: Option<C::Cost>) -> bool
 }
 
 // Whether two costs are one.
-// Stays: a `PartialEq` of `Cost` would ask more of whoever writes a model.
+// Stays: a rule of the project: a model is asked no more than before, and a `PartialEq` of `Cost` would ask more of each.
 fn same<C: CostModel>(a: C::Cost, b: C::Cost) -> bool
     ensures { Decides result (C.exact a ≡ C.exact b) }
 {

@@ -34,7 +34,7 @@ pub trait CostModel: Named {
         ensures { result ≡ not (model.within (exact b) (exact a)) };
 
     // `COLUMNS`, tied to the model.
-    // Stays: a law on `COLUMNS` would ask more of whoever writes a model, whose `COLUMNS` has been free.
+    // Stays: a rule of the project: a model is asked no more than before, and a law on `COLUMNS` would ask more of each.
     fn column_count() -> usize
         ensures { result ≡ model.columns };
 

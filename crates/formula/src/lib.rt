@@ -149,6 +149,7 @@ pub fn evaluate(text: &[u8], count: u8, marks: u16) -> Result<bool, FormulaFault
         place: 0,
     };
     let (value, end) = start.read_sum()?;
+    // Stays: two numbers are compared, and no byte is wanted of that place.
     if end < text.len() {
         return Err(FormulaFault { place: end });
     }

@@ -82,6 +82,8 @@ impl Draft {
         Ok(kind)
     }
 
+    // Stays: two functions of one line each. What they share is the library's `is_none_or`, and each has an order of its own.
+
     // Whether these marks are above those of the last condition.
     pub(crate) fn condition_rises(&self, marks: u16) -> bool
         ensures { result ≡ rises self.now.conditions.items marks }
