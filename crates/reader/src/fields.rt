@@ -1,5 +1,5 @@
 // The fields of a record, each checked as it is read.
-ghost use Rattle.std.specs.Prelude.{◌≡◌, ◌+◌, IfOk};
+ghost use Rattle.std.specs.Prelude.{◌≡◌, ◌+◌, cond, IfOk, None, Some};
 ghost use Rattle.faults.specs.declared.layers.PortFault.TheVariants.{Record};
 ghost use Rattle.reading.specs.Reading.{number, field, minutes, text, whole_text};
 ghost use Rattle.reader.specs.Reads.{Reads, itself};
@@ -66,7 +66,7 @@ impl<'a> Reader<'a> {
 
     // The bytes of a text that is present, which are not those of an absent one.
     fn next_whole_text(&mut self) -> Result<TextAt<'a>, PortFault>
-        ensures read { Reads whole_text (λ t. t.text.bytes.now) itself self.old self.new result }
+        ensures read { Reads whole_text (λ t. t.bytes.now) itself self.old self.new result }
         ensures stands { IfOk result (λ t. t.place ≡ self.old.place + 1) }
     {
         let length_place = self.place;
@@ -76,19 +76,25 @@ impl<'a> Reader<'a> {
         if bytes == b"1".as_slice() {
             return Err(PortFault::Record(RecordFault::Absent(length_place)));
         }
-        let text = SheetText { bytes };
-        Ok(TextAt { text, place })
+        Ok(TextAt { bytes, place })
     }
 
-    // A text that is a formula over the marks; an absent one is `1`.
+    // A text that is a formula over the marks, and where its bytes begin; an absent one is `1`, and stands nowhere.
     pub fn next_text(&mut self, present: bool, marks: u8) -> Result<SheetText<'a>, PortFault>
-        ensures { Reads (text present marks) (λ t. t.bytes.now) itself self.old self.new result }
+        ensures read { Reads (text present marks) (λ t. t.bytes.now) itself self.old self.new result }
+        ensures stands { IfOk result (λ t. t.place ≡ cond present (Some (self.old.place + 1)) None) }
     {
         if !present {
-            return Ok(SheetText { bytes: b"1" });
+            return Ok(SheetText {
+                bytes: b"1",
+                place: None,
+            });
         }
         let found = self.next_whole_text()?;
         found.check(marks)?;
-        Ok(found.text)
+        Ok(SheetText {
+            bytes: found.bytes,
+            place: Some(found.place),
+        })
     }
 }

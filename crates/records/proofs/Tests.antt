@@ -1,8 +1,7 @@
 -- Tests of numbers, as the code and the reading write them.
-use Rattle.std.proofs.Common.{◌≡◌, ℕ, ◌+◌, ◌-◌, ◌*◌, ◌/◌, ◌<◌, Bool, true, false, eqb, ltb, List, [], ◌∷◌, length, get_or, refl, sym, ap, ◌∙◌, arith, eq-eqb, ne_eqb, ltb-true, ltb-false}
+use Rattle.std.proofs.Common.{◌≡◌, ℕ, ◌+◌, ◌-◌, ◌*◌, ◌<◌, Bool, true, ltb, List, [], ◌∷◌, length, get_or, sym, ap, ◌∙◌, arith, ne_eqb}
 use mathlib.Core.List as List
 use lib.ListN.{length-map}
-use Rattle.std.proofs.Math.Nat.{div-lt_iff_lt-mul}
 use Rattle.std.proofs.lemmas.Bool.Decides.{nat_tests}
 use Rattle.std.specs.Ordering.{nat_cmp, is_lt, is_some_and, partial_ordering_then}
 use Rattle.std.specs.Prelude.{Option, Some, None, MatchOption, option_map}
@@ -10,19 +9,6 @@ use Rattle.std.specs.List.{slice_get}
 use Rattle.std.proofs.lemmas.Option.{none-some, slice_get-get_or, slice_get_within, get_or_from_slice_get}
 use Rattle.std.proofs.lemmas.List.{get_or-map}
 use Rattle.reading.specs.Reading.{rises}
-
--- a quotient is 0 exactly below the divisor
-pub none_over : (n d : ℕ) → 0 < d → eqb (n / d) 0 ≡ ltb n d
-none_over n d h = by (ltb n d) refl
-  where
-    by : (t : Bool) → ltb n d ≡ t → eqb (n / d) 0 ≡ t
-    by true e =
-        let below : n / d < 1 = (div-lt_iff_lt-mul {k = d} {x = n} {y = 1} h).1 (omega (arith, ltb-true n d e)) in
-        eq-eqb _ _ (omega arith)
-    by false e =
-        ne_eqb _ _ (λ z.
-        let below : n < 1 * d = (div-lt_iff_lt-mul {k = d} {x = n} {y = 1} h).0 (omega arith) in
-        omega (arith, ltb-false n d e))
 
 -- the order of three numbers, of which the later two are bytes, is that of one number made of them
 pub three_before : (a b c d e f : ℕ) → b < 256 → c < 256 → e < 256 → f < 256 →

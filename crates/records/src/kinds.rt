@@ -1,5 +1,5 @@
 // The kinds of records.
-ghost use Rattle.std.specs.Prelude.{◌≡◌, ◌^◌, ◌<◌, nat_lt};
+ghost use Rattle.std.specs.Prelude.{◌≡◌, ◌+◌, ◌<◌, nat_lt};
 ghost use Rattle.reading.specs.Reading.{map_limit};
 ghost use Rattle.records.specs.Kinds.{Decodes, bit_number, kind_number};
 
@@ -50,21 +50,20 @@ impl TryFrom<u8> for Kind {
 }
 
 impl Kind {
-    // How many fields a record of this kind may have, each with a bit of its map.
-    fn fields(self) -> u8
-        ensures few { result < 8 }
-        ensures limit { 2 ^ result ≡ map_limit (kind_number self) }
+    // The bits of the map that have a field.
+    fn defined(self) -> u8
+        ensures { result + 1 ≡ map_limit (kind_number self) }
     {
         match self {
-            Kind::Condition => 2,
-            Kind::Move | Kind::Request => 4,
+            Kind::Condition => 0b0011,
+            Kind::Move | Kind::Request => 0b1111,
         }
     }
 
-    // Whether every bit of the map has a field.
+    // Whether every bit of the map has a field: the fields that it counts are then as many as its ones.
     pub(crate) fn has_fields(self, map: u8) -> bool
         ensures { result ≡ nat_lt map (map_limit (kind_number self)) }
     {
-        map >> self.fields() == 0
+        (map & self.defined()).count_ones() == map.count_ones()
     }
 }

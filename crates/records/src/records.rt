@@ -8,7 +8,7 @@ ghost use Rattle.reader.specs.Reads.{Reads, itself};
 
 use crate::draft::Draft;
 use crate::kinds::{Bit, Kind};
-use faults::{PortFault, RecordFault};
+use faults::{ByteFault, PortFault, RecordFault};
 use port::Move;
 use reader::{Reader, SheetText};
 
@@ -89,19 +89,28 @@ fn read_head(reader: &mut Reader, draft: &Draft) -> Result<Head, PortFault>
     ensures { Reads (head_read (draft_model draft.now)) head_of itself reader.old reader.new result }
 {
     let place = reader.place;
-    let byte = reader.next_byte()?;
-    let kind = draft.admit(byte, place)?;
-    let map_place = reader.place;
-    let map = reader.next_byte()?;
-    if !kind.has_fields(map) {
-        return Err(PortFault::Record(RecordFault::Map(map_place)));
+    match reader.rest {
+        [] => Err(PortFault::from(ByteFault::Ends(place))),
+        [kind] => {
+            draft.admit(*kind, place)?;
+            Err(PortFault::from(ByteFault::Ends(place + 1)))
+        }
+        [kind, map, rest @ ..] => {
+            let kind = draft.admit(*kind, place)?;
+            let map_place = place + 1;
+            if !kind.has_fields(*map) {
+                return Err(PortFault::Record(RecordFault::Map(map_place)));
+            }
+            reader.rest = rest;
+            reader.place = place + 2;
+            Ok(Head {
+                kind,
+                place,
+                map: *map,
+                map_place,
+            })
+        }
     }
-    Ok(Head {
-        kind,
-        place,
-        map,
-        map_place,
-    })
 }
 
 // Stays: the reader, the draft and the head as parameters of each: two are lent, one of them to be changed, and a struct of the three

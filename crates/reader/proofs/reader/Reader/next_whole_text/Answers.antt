@@ -24,15 +24,14 @@ returns-then-eq c =
       stands = tt;
     }
 
-pub invariant_of-text : goal.invariant_of-text
-invariant_of-text c =
-    let b = bytes_place _ _ _ _ _ _ c.in_ok-bytes.ensures in
-    record { some = omega (arith, b.0, c.in_ok-length.ensures.limits.0); few = omega (arith, b.0, c.in_ok-length.ensures.limits.1) }
-
 pub invariant_of-result : goal.invariant_of-result
 invariant_of-result c =
     let b = bytes_place _ _ _ _ _ _ c.in_ok-bytes.ensures in
-    record { within = omega (arith, b.0, b.1, c.in_ok-length.ensures.limits.2, c.next_bytes.new.self.within) }
+    record {
+      some = omega (arith, b.0, c.in_ok-length.ensures.limits.0);
+      few = omega (arith, b.0, c.in_ok-length.ensures.limits.1);
+      within = omega (arith, b.0, b.1, c.in_ok-length.ensures.limits.2, c.next_bytes.new.self.within);
+    }
 
 pub returns : goal.returns
 unfolding whole_text text_length counted
