@@ -74,10 +74,7 @@ pub(crate) fn stages_of(
 ) -> Result<Vec<Stage>, AllocError>
     ensures { IfOk result (λ v. StagesNew stages conditions v.items) }
 {
-    let mut all = Vec::new(heap);
-    // Stays: a push for each, since std says nothing of what a chain of Results collects.
-    for _ in 0..stages {
-        all.push(Stage::new(heap, conditions)?)?;
-    }
-    Ok(all)
+    (0..stages)
+        .map(|_| Stage::new(heap, conditions))
+        .try_collect(heap)
 }

@@ -14,6 +14,7 @@ use search::{Choice, search};
 use std::alloc::{AllocError, Global};
 
 // A request: its stages, and rows of flags by condition.
+// Stays: rows beside each other, as in `Stage`: a search takes two of them as slices of flags.
 #[derive(Drop)]
 pub struct Task {
     pub(crate) from: usize,
@@ -91,7 +92,7 @@ pub(crate) fn tasks_of(heap: Global, port: &Port) -> Result<Vec<Task>, AllocErro
     ensures { IfOk result (λ v. TasksOf port.now v.items) }
 {
     let mut tasks = Vec::new(heap);
-    // Stays: a push for each, since std says nothing of what a chain of Results collects.
+    // Stays: tried with `try_collect`: that a request is one of the port's, as `Task::new` asks, did not close for its closure.
     for request in &port.requests {
         tasks.push(Task::new(heap, port, request)?)?;
     }
