@@ -223,6 +223,9 @@ module _ {A : Type 0} {k : Model} (laws : WeakLaws k) (e : A → List ℕ) (size
       closed = no_plan laws moves keep goal n within (looked e costs) (looked_sized k e sized costs) state.final.goals (looked e offers) state.offered (λ c l. none c (subst (λ m. c < m) (sym state.offers_sized) l));
     }
 
+    pub settled_early : (costs : List (Option A)) → Settled k e moves keep goal n costs → Early k e 255 costs
+    settled_early costs s d f p c a q w = widen 254 255 (omega arith) (s.early d f p c a q w)
+
     -- what is chosen by costs that are settled is the answer
     pub answered : (costs : List (Option A)) → Settled k e moves keep goal n costs → (c : ℕ) → c < n → (x : Choice A) → Picked k e moves (looked e costs) goal c x → Answer k e moves keep goal c x
     answered costs s c l Nothing h = go (looked e costs c) refl
