@@ -15,9 +15,6 @@ fn digit(b: u8) -> Option<u8> {
 // Stays: a rule of the project: nothing new is trusted, as the statements of the kit's crate for hex would be.
 fn decode(heap: Global, line: &[u8]) -> Result<Option<Vec<u8>>, AllocError> {
     let mut bytes = Vec::new(heap);
-    if line.len() % 2 != 0 {
-        return Ok(None);
-    }
     for pair in line.chunks(2) {
         let [high, low] = pair else {
             return Ok(None);
@@ -25,7 +22,7 @@ fn decode(heap: Global, line: &[u8]) -> Result<Option<Vec<u8>>, AllocError> {
         let (Some(a), Some(b)) = (digit(*high), digit(*low)) else {
             return Ok(None);
         };
-        bytes.push((a & 15) * 16 + (b & 15))?;
+        bytes.push(a << 4 | b)?;
     }
     Ok(Some(bytes))
 }

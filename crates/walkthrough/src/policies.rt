@@ -5,7 +5,21 @@ use costs::{CostModel, Named};
 use port::Port;
 use solver::{Entry, SolveError, Summary, pair_count, place_count, solve};
 
-// Shows a table with `width` items in a row: each item with the number of its row and of its place there.
+// Shows a row of a table: each item with the numbers of the row and of its place there.
+fn show_row<T: Copy, F: Fn(usize, usize, T) -> anyhow::Result<()>>(
+    row: usize,
+    items: &[T],
+    show: &F,
+) -> anyhow::Result<()>
+    requires { F.IsAlwaysCallable show.now }
+{
+    for (place, item) in items.iter().enumerate() {
+        show(row, place, *item)?;
+    }
+    Ok(())
+}
+
+// Shows a table with `width` items in a row.
 fn show_table<T: Copy, F: Fn(usize, usize, T) -> anyhow::Result<()>>(
     width: usize,
     items: &[T],
@@ -14,8 +28,8 @@ fn show_table<T: Copy, F: Fn(usize, usize, T) -> anyhow::Result<()>>(
     requires row { 0 < width }
     requires show { F.IsAlwaysCallable show }
 {
-    for (place, item) in items.iter().enumerate() {
-        show(place / width, place % width, *item)?;
+    for (row, items) in items.chunks(width).enumerate() {
+        show_row(row, items, &show)?;
     }
     Ok(())
 }
