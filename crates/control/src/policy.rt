@@ -4,7 +4,7 @@ ghost use Rattle.std.specs.Prelude.{◌≡◌};
 use solver::{Entry, Tables};
 
 // Entries and costs by request, ranks by stage, and then each by condition: the buffers that solving fills.
-// Stays: beside solver's `Tables`, which owns its tables: a controller takes slices of any caller.
+// Stays: a rule of the project: a controller takes any caller's tables, as slices; solver's `Tables` owns its own.
 #[derive(Clone, Copy)]
 pub struct Policy<'a, K> {
     pub entries: &'a [Entry],
@@ -12,13 +12,11 @@ pub struct Policy<'a, K> {
     pub ranks: &'a [u16],
 }
 
-impl<'a, K: Copy> Policy<'a, K> {
-    // The policy of a solved port's tables.
-    pub(crate) fn of_tables(tables: &'a Tables<K>) -> Policy<'a, K>
-        ensures entries { result.entries.now ≡ tables.now.entries.items }
-        ensures costs { result.costs.now ≡ tables.now.costs.items }
-        ensures ranks { result.ranks.now ≡ tables.now.ranks.items }
-    {
+// The policy of a solved port's tables.
+impl<'a, K: Copy> From<&'a Tables<K>> for Policy<'a, K> {
+    ghost from_gives = { λ t p. (p.entries.now ≡ t.now.entries.items) × (p.costs.now ≡ t.now.costs.items) × (p.ranks.now ≡ t.now.ranks.items) };
+
+    fn from(tables: &'a Tables<K>) -> Policy<'a, K> {
         Policy {
             entries: &tables.entries,
             costs: &tables.costs,

@@ -39,6 +39,7 @@ impl fmt::Display for OutingError {
 
 impl Error for OutingError {}
 
+// Stays: this `From` and the next by hand, since a derived one says nothing in `from_gives`, by which a clause knows what a `?` made.
 impl From<AllocError> for OutingError {
     ghost from_gives = { λ _ r. r ≡ Memory };
 
@@ -83,7 +84,7 @@ pub fn outing<C: CostModel, L: Lock>(
 {
     let tables = solved::<C>(heap, port)?;
     let mut log = Vec::with_capacity(heap, commands.len())?;
-    let mut controller = Controller::<C>::open(port, Policy::of_tables(&tables), lock)?;
+    let mut controller = Controller::<C>::open(port, Policy::from(&tables), lock)?;
     controller.run(commands, lock, &mut log);
     Ok(log)
 }

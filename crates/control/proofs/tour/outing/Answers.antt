@@ -10,7 +10,7 @@ returns-clause-told g c =
     let k = g.C.CostModel.model in
     let e = g.C.CostModel.exact in
     let p = c.args.port.now in
-    let t = c.of_tables.result in
+    let t = c.from.result in
     let M = g.L.Lock.home c.args.lock.now in
     let m = g.L.Lock.present c.args.lock.now in
     let ks = c.args.commands.now in
@@ -18,7 +18,7 @@ returns-clause-told g c =
     let a = c.in_ok-controller.controller in
     let o = c.in_ok-controller.ensures.opened in
     let last = beside c.run.new.self (g.L.Lock.present c.run.new.lock) in
-    let s = solved_there k e p t _ _ _ c.of_tables.ensures.entries c.of_tables.ensures.costs c.of_tables.ensures.ranks c.in_ok-tables.ensures.solved in
+    let s = solved_there k e p t _ _ _ c.from.ensures.0 c.from.ensures.1 c.from.ensures.2 c.in_ok-tables.ensures.solved in
     told k e p t s g.C.CostModel.laws M m ks rs last o.4
     (logged_there k e a.terms.port.now p a.terms.policy t M a.stage p.header.stage a.out None (ap (λ x. x.now) o.0) o.1 o.2 o.3 m ks rs last
     c.run.ensures.logged)
@@ -28,13 +28,13 @@ returns-in_err-controller-clause-told g c =
     let k = g.C.CostModel.model in
     let e = g.C.CostModel.exact in
     let p = c.args.port.now in
-    let t = c.of_tables.result in
+    let t = c.from.result in
     let m = g.L.Lock.present c.args.lock.now in
     let d = c.in_ok-tables.ensures in
-    let same = c.of_tables.ensures in
-    let s = solved_there k e p t _ _ _ same.entries same.costs same.ranks d.solved in
+    let same = c.from.ensures in
+    let s = solved_there k e p t _ _ _ same.0 same.1 same.2 d.solved in
     let room =
-    roomy (domain_of (model_of p)) t.entries.now t.costs.now t.ranks.now (ap length same.entries ∙ d.entries_long) (ap length same.costs ∙ d.costs_long)
-    (ap length same.ranks ∙ d.ranks_long) in
+    roomy (domain_of (model_of p)) t.entries.now t.costs.now t.ranks.now (ap length same.0 ∙ d.entries_long) (ap length same.1 ∙ d.costs_long)
+    (ap length same.2 ∙ d.ranks_long) in
     barred k e p t m s room c.in_err-controller.field-0.0 c.in_err-controller.ensures.opened c.from_residual-in_err-controller.result _
     c.from_residual-in_err-controller.ensures.1 (λ y h. search rules) _
