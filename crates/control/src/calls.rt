@@ -46,7 +46,7 @@ impl<'a, C: CostModel> Controller<'a, C> {
     }
 
     // Works the policy's operation for a request once.
-    // Stays: `home` as a clause: within `DoesCall` it would take one more argument, the lock's port after the call.
+    // Stays: `home` as a clause, here and where it stands after this: within `DoesCall` it would take one more argument, the lock's port after the call.
     fn work_on<L: Lock>(&self, request: u8, lock: &mut L) -> Result<u8, Refusal>
         ensures home { L.home lock.new ≡ L.home lock.old }
         ensures does { DoesCall C.model C.exact (L.home lock.old) self.now (L.present lock.old) (Command.Step request) (step_answer result) self.now (L.present lock.new) }

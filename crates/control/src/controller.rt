@@ -31,6 +31,8 @@ impl<'a, C: CostModel> Controller<'a, C> {
         condition_of(self.terms.port, marks).ok_or(Refusal::NoCondition)
     }
 
+    // Stays: request and marks as two parameters of these, as they stand in a command and in a lock: a struct of both would live for one call.
+
     // What a request would cost.
     fn rule_quote(&self, request: u8, marks: u16) -> Result<C::Cost, Refusal>
         ensures { FindsCall C.model C.exact self.now request marks quote_rules (Priced C.exact) result }

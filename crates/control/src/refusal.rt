@@ -30,6 +30,7 @@ pub enum Refusal {
 }
 
 impl Refusal {
+    // Stays: a rule of the project: docs/CONTROL.md knows a refusal by its number.
     pub fn number(self) -> u8
         ensures { result ≡ refusal_number self }
     {

@@ -51,6 +51,7 @@ impl<'a, C: CostModel> Terms<'a, C> {
     }
 
     // The place in a table that has a row for each request or stage, and a column for each condition.
+    // Stays: a rule of the project: the tables are flat, any caller's slices, so that a place in them is a sum.
     fn place(&self, row: u8, condition: u8) -> usize
         ensures { result ≡ row * length (model_of self.now.port.now).conditions + condition }
     {

@@ -14,7 +14,7 @@ pub enum LoadError {
 }
 
 // A fault before the first record.
-// Stays: as in layers.rt, for its `from_gives`.
+// Stays: by hand, since a derived `From` says nothing in `from_gives`, by which a clause knows what a `?` made.
 impl From<PortFault> for LoadError {
     ghost from_gives = { λ e r. r ≡ Fault e 0 };
 

@@ -51,6 +51,7 @@ pub fn page(heap: Global, sheet: &[u8]) -> Result<String, AllocError> {
     let mut port = Port::new(heap)?;
     match load(&mut port, heap, sheet) {
         Ok(()) => port_page(heap, &port),
+        // Stays: one arm hands on want of memory and the next prints a fault; no `From` into the library's error can be written.
         Err(LoadError::Memory) => Err(AllocError),
         Err(fault) => format!(in heap; "{fault}\n"),
     }

@@ -8,7 +8,7 @@ use std::fmt::Write;
 
 // The columns of a cost.
 fn add_columns<C: CostModel>(cost: C::Cost, out: &mut String) -> Result<(), AllocError> {
-    // Stays: a cost model tells a column by its number.
+    // Stays: a cost model tells a column by its number, so that there are no items to go over.
     for i in 0..C::COLUMNS {
         let column = C::column(cost, i);
         write!(out, " {column}")?;

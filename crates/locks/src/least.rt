@@ -50,7 +50,7 @@ impl<'a> LeastChangeLock<'a> {
     }
 }
 
-// Stays: beside the other lock, which has the first four methods too, as is said there.
+// Stays: beside the other lock, which has the first four methods too: one lock for both would say by a ghost member which outcome it takes.
 impl<'a> Lock for LeastChangeLock<'a> {
     ghost home = { λ s. model_of s.port.now };
 

@@ -11,9 +11,10 @@ use faults::{PortFault, RecordFault};
 // The most bytes of a text.
 const TEXT_BYTES: u8 = 63;
 
-// Stays: `present` is a bit of the map byte. No value stands beside it, and whether one is read, and where a fault of it stands, is what it
-// decides: an `Option` could hold nothing before the call.
-// Stays: `next_number` and `next_minutes`, of one byte and of two, are each one definition of how a field reads.
+// Stays: a rule of the project: `present` is a parameter of public calls, a bit of the map byte. No value stands beside it: whether one is
+// read is what it decides, so that an `Option` could hold nothing before the call.
+// Stays: `next_number` and `next_minutes`, of one byte and of two: each is one definition to be believed, and one call for both would need
+// one definition of both widths.
 impl<'a> Reader<'a> {
     // A number of one byte, which is not 0 where it is present.
     pub(crate) fn next_number(&mut self, present: bool) -> Result<u8, RecordFault>

@@ -3,6 +3,7 @@ ghost use Rattle.std.specs.Prelude.{◌≤◌};
 
 use port::{Header, Move, Request};
 
+// Stays: beside `Port`, whose invariants hold only when every record is read.
 #[derive(Drop)]
 pub struct Draft {
     pub header: Header,

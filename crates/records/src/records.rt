@@ -69,6 +69,8 @@ impl Head {
 }
 
 impl Draft {
+    // Stays: two limits of one line each, which two definitions tell.
+
     // The marks of a low byte that exist are those below this limit.
     fn low_limit(&self) -> usize
         ensures { result ≡ low_limit self.now.header.marks }

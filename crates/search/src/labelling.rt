@@ -41,6 +41,7 @@ fn solve<'a, C: CostModel>(
         goal,
         costs: &costs,
     };
+    // Stays: beside the costs, and not a row of pairs: the definitions speak of final costs and of offers apart.
     let mut offers = known.offers(heap)?;
     // Stays: the offers change with each label, so that no iterator can go over them.
     while let Some(label) = least::<C>(&offers) {

@@ -58,6 +58,7 @@ pub struct Summary {
 }
 
 // The tables of a solved port, whole: entries and costs by request, ranks by stage, and then each by condition; and what they come to.
+// Stays: entries and costs apart, a rule of the project: they are copied to two buffers of a caller.
 #[derive(Drop)]
 pub struct Tables<K: Copy> {
     pub entries: Vec<Entry>,

@@ -21,6 +21,7 @@ struct Solution<K: Copy> {
     ranks: Vec<u16>,
 }
 
+// Stays: by hand, since a derived `From` says nothing in `from_gives`, by which a clause knows what a `?` made.
 impl From<AllocError> for SolveError {
     ghost from_gives = { λ _ r. r ≡ Memory };
 
@@ -70,6 +71,7 @@ fn summarize(port: &Port, ranks: &[u16]) -> Summary
     ensures rounds { result.rounds ≡ largest_of ranks.now }
     ensures start { result.start ≡ slice_index ranks.now (start_of (model_of port.now)) }
 {
+    // Stays: a rule of the project: ranks are handed out flat, so that a place among them is a sum.
     let start = port.header.stage as usize * port.conditions.len() + port.header.condition as usize;
     Summary {
         kept: count_kept(ranks),

@@ -51,6 +51,7 @@ pub fn all_below<C: CostModel>(moves: &[Move], costs: &[Option<C::Cost>], cost: 
 }
 
 // Whether a cost is below that of the best label so far, or there is none yet.
+// Stays: beside `under` of two costs: to go by that, a label would be taken apart and a cost put into an Option first.
 fn is_better<C: CostModel>(cost: C::Cost, best: Option<Label<C::Cost>>) -> bool
     ensures { result ≡ under_of C.model (Some (C.exact cost)) (shown (λ b. C.exact b.cost) best) }
 {
