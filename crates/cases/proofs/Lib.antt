@@ -5,3 +5,4 @@ pub mod Ranks
 pub mod Costed
 pub mod Policies
 pub mod Tolls
+pub mod Errands

@@ -4,3 +4,4 @@ pub mod Sheets
 pub mod Ranks
 pub mod Tolls
 pub mod Policies
+pub mod Errands

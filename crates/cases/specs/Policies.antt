@@ -39,8 +39,22 @@ gate_entries =
 abbrev one : ℕ → List ℕ
 one a = a ∷ []
 
-abbrev two : ℕ → ℕ → List ℕ
+abbrev pub two : ℕ → ℕ → List ℕ
 two a b = a ∷ b ∷ []
+
+-- Low Staithe by minutes
+abbrev pub staithe_minutes : Row
+staithe_minutes = record {
+  port = low_staithe;
+  model = minutes_model;
+  laws = minutes_laws;
+  entries = staithe_entries;
+  costs =
+      two 16 2 ∷ two 0 0 ∷ two 10 1 ∷ two 0 0 ∷
+      two 0 0 ∷ two 3 1 ∷ two 0 0 ∷ two 0 0 ∷
+      [];
+  ranks = staithe_ranks;
+}
 
 abbrev pub rows : List Row
 rows =
@@ -55,17 +69,7 @@ rows =
           [];
       ranks = staithe_ranks;
     } ∷
-    record {
-      port = low_staithe;
-      model = minutes_model;
-      laws = minutes_laws;
-      entries = staithe_entries;
-      costs =
-          two 16 2 ∷ two 0 0 ∷ two 10 1 ∷ two 0 0 ∷
-          two 0 0 ∷ two 3 1 ∷ two 0 0 ∷ two 0 0 ∷
-          [];
-      ranks = staithe_ranks;
-    } ∷
+    staithe_minutes ∷
     record {
       port = low_staithe;
       model = toll_model;

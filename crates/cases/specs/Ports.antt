@@ -4,7 +4,7 @@ use Rattle.port.specs.declared.Header.{Header}
 use Rattle.port.specs.declared.Move.{Move}
 use Rattle.port.specs.Model.{Model, RequestModel}
 
-abbrev move : ℕ → ℕ → ℕ → ℕ → Move
+abbrev pub move : ℕ → ℕ → ℕ → ℕ → Move
 move condition operation outcome minutes = record { condition = condition; operation = operation; outcome = outcome; minutes = minutes }
 
 abbrev header : Header

@@ -1,6 +1,7 @@
 // Worked examples, as theorems about the definitions. Each function stands for the rows of one list, by its contract.
 #![tactic(auto)]
 
+ghost use Rattle.cases.specs.Errands.{ErrandsHold};
 ghost use Rattle.cases.specs.Formulas.{FaultyHold, FormulasHold};
 ghost use Rattle.cases.specs.Policies.{PoliciesHold};
 ghost use Rattle.cases.specs.Ranks.{RanksHold};
@@ -48,6 +49,13 @@ pub fn ranks_stand() -> bool
 // Policies, costs and ranks are those of their ports: each cost is the least over all plans.
 pub fn policies_stand() -> bool
     ensures { PoliciesHold }
+{
+    true
+}
+
+// Locks that are worked by a policy go where their rows say, at the cost that was quoted or less.
+pub fn locks_stand() -> bool
+    ensures { ErrandsHold }
 {
     true
 }
