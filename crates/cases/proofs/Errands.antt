@@ -1,16 +1,21 @@
 -- The rows of errands: a row that passes a computed test holds.
-use Rattle.std.proofs.Common.{◌≡◌, ℕ, Bool, true, false, not, ◌&&◌, ◌||◌, eqb, leb, is_none, slice_index, List, [], ◌∷◌, map, Some, None, Option, sym, refl, ap, ap₂, ◌∙◌, subst, inl, inr, arith, eqb-true, eq-eqb, leb-true, le-leb}
+use Rattle.std.proofs.Common.{◌≡◌, ℕ, ◌%◌, ◌<◌, Bool, true, false, not, ◌&&◌, ◌||◌, eqb, ltb, leb, is_none, slice_index, List, [], ◌∷◌, map, length, Some, None, Option, sym, refl, ap, ap₂, ◌∙◌, subst, inl, inr, arith, eqb-true, eq-eqb, ltb-true, leb-true, le-leb}
 use mathlib.Core.Bool.{and-eq-true_iff, false≢true}
 use Rattle.port.specs.Limits.{In}
 use Rattle.port.specs.Model.{Model as PortModel}
+use Rattle.port.specs.Valid.{Valid}
 use Rattle.port.specs.declared.Move.{Move}
-use Rattle.plans.specs.Plans.{Can}
+use Rattle.plans.specs.Plans.{Can, end}
 use Rattle.plans.specs.Flags.{task_at}
 use Rattle.plans.specs.Reach.{some, each}
 use Rattle.plans.proofs.Decide.{some_in, each_in, implies}
 use Rattle.costs.specs.Costs.{cost}
+use Rattle.locks.specs.Places.{IsAt, Leads, place_of}
 use Rattle.locks.specs.Targets.{named_by}
 use Rattle.locks.specs.Works.{Before, change, outcomes}
+use Rattle.locks.proofs.Standing.{place_found, same_place}
+use Rattle.locks.proofs.Outcomes.{outcome_in, outcome_of, outcome_inside}
+use Rattle.locks.proofs.Going.{goes_nth, goes_least, named_is}
 use Rattle.solver.specs.declared.Entry.{Entry}
 use Rattle.solver.specs.declared.Entry.TheVariants.{None as Nothing, There, Work}
 use Rattle.solver.specs.Policy.{World, Solved}
@@ -18,9 +23,12 @@ use Rattle.histories.specs.declared.Command.{Command}
 use Rattle.histories.specs.declared.Command.TheVariants.{Ask, Step, Close}
 use Rattle.histories.specs.Calls.{At, History, Passes, refusal, rules, start_at, is_there}
 use Rattle.histories.specs.Errands.{Errand, errands}
+use Rattle.cases.specs.Ports.{low_staithe, low_staithe_sheet}
+use Rattle.cases.specs.Sheets.{port}
 use Rattle.cases.specs.Policies.{Row as PolicyRow, world, staithe_minutes}
-use Rattle.cases.specs.Errands.{Picks, scripted, nearest, Picked, later, Goes, out_at, steps, calls, last, Row, rows, ErrandsHold}
+use Rattle.cases.specs.Errands.{Picks, scripted, nearest, Picked, later, Goes, Promised, Shows, marks_of, out_at, steps, calls, Row, rows, ErrandsHold}
 use Rattle.cases.proofs.Policies.{policies_hold}
+use Rattle.cases.proofs.Sheets.{sheets_valid}
 use Rattle.cases.proofs.Rows.{same_answers}
 
 -- ── entries and moves ──
@@ -188,7 +196,7 @@ module _ (r : PolicyRow) where
       (alone (later p) s q m.outcome ms ns k.1 (subst (λ (x : ℕ). Goes w M q (later p) x ns) d g.3))
 
   worked_on : (p : Picks) (s q c : ℕ) (ms : List Move) → goes p s q c ms ≡ true →
-      History w (out_at s q c) (steps w s q c ms) (start_at (task_at w.domain q).to (Some (last c ms)))
+      History w (out_at s q c) (steps w s q c ms) (start_at (task_at w.domain q).to (Some (end c ms)))
   worked_on p s q c [] e =
       let h = (and-eq-true_iff (is_there (w.entry q c)) (passes (out_at s q c) (Close q))).0 e in
       (refl, (q, (refl, passes_true (out_at s q c) (Close q) h.1, refl, refl)), refl)
@@ -203,16 +211,76 @@ module _ (r : PolicyRow) where
       )
 
   asked : (p : Picks) (s q c : ℕ) (ms : List Move) → passes (start_at s (Some c)) (Ask q) ≡ true → goes p s q c ms ≡ true →
-      History w (start_at s (Some c)) (calls w s q c ms) (start_at (task_at w.domain q).to (Some (last c ms)))
+      History w (start_at s (Some c)) (calls w s q c ms) (start_at (task_at w.domain q).to (Some (end c ms)))
   asked p s q c ms a e =
       (refl, (q, (refl, passes_true (start_at s (Some c)) (Ask q) a, refl, refl)), worked_on p s q c ms e)
 
+  -- ── what a lock shows ──
+
+  module _ (v : Valid M) where
+    found : (c : ℕ) → c < length M.conditions → Some c ≡ place_of M.conditions (marks_of M c)
+    found c l = place_found M.conditions c (marks_of M c) l refl (λ k b e. let u = v.conditions_rise k c b l in omega arith)
+
+    same_at : (c d : ℕ) → c < length M.conditions → IsAt M d (marks_of M c) → d ≡ c
+    same_at c d l a = same_place M d c (marks_of M c) v.conditions_rise a (l, refl)
+
+    promised : (p : Picks) (c o d : ℕ) → c < length M.conditions → Picked M p c o d → Promised M p (marks_of M c) o (marks_of M d)
+    promised (scripted bytes) c o d l h =
+        goes_nth M (marks_of M c) o (slice_index bytes 0) (slice_index bytes 0) c d (marks_of M d) v (found c l) refl (sym h) refl
+    promised nearest c o d l h = goes_least M (marks_of M c) o c d (marks_of M d) v (found c l) h refl
+
+    promised_one : (p : Picks) (c o d m' : ℕ) → c < length M.conditions → Picked M p c o d → Promised M p (marks_of M c) o m' → m' ≡ marks_of M d
+    promised_one (scripted bytes) c o d m' l h (b, t) =
+        let byte = slice_index bytes 0 in
+        sym t.1.1
+        ∙ ap (λ (x : ℕ). marks_of M (slice_index (outcomes M.moves x o) (byte % length (outcomes M.moves x o)))) (same_at c b l t.0)
+        ∙ ap (marks_of M) (sym (named_is byte d (outcomes M.moves c o) (sym h)))
+    promised_one nearest c o d m' l h (b, e, t) =
+        let there =
+        subst (λ (x : ℕ). Leads M x o e × ((y : ℕ) → Leads M x o y → Before (change M x e) e (change M x y) y)) (same_at c b l t.0) (t.1, t.3) in
+        let move = there.0 in
+        let i = subst (λ (y : ℕ). In y (outcomes M.moves c o)) move.2 (outcome_in M.moves c o move.0 move.1.0 move.1.1 move.1.2) in
+        let first = h.1 e i in
+        let second = there.1 d (outcome_of M.moves c o d h.0) in
+        let same : e ≡ d = omega (arith, first.0, first.1, second.0, second.1) in
+        sym t.2.1 ∙ ap (marks_of M) same
+
+    abbrev shown_by : List Move → List ℕ
+    shown_by ms = map (λ (m : Move). marks_of M m.outcome) ms
+
+    leads_inside : (p : Picks) (q c : ℕ) (m : Move) (ms : List Move) → Goes w M q p c (m ∷ ms) → m.outcome < length M.conditions
+    leads_inside p q c m ms g =
+        outcome_inside M c m.operation m.outcome v (outcome_in M.moves c m.operation m g.1.0 g.1.1 g.1.2)
+
+    shows : (p : Picks) (q c : ℕ) (ms : List Move) → c < length M.conditions → Goes w M q p c ms → Shows w M q p (marks_of M c) (shown_by ms)
+    shows p q c [] l g = (c, ((l, refl), g))
+    shows p q c (m ∷ ms) l g =
+        (c, m.operation, ((l, refl), g.0, promised p c m.operation m.outcome l g.2, shows (later p) q m.outcome ms (leads_inside p q c m ms g) g.3))
+
+    only : (p : Picks) (q c : ℕ) (ms : List Move) (ns : List ℕ) → c < length M.conditions → Goes w M q p c ms → Shows w M q p (marks_of M c) ns → ns ≡ shown_by ms
+    only p q c [] [] l g s = refl
+    only p q c [] (n ∷ ns) l g (b, o, t) =
+        absurd (there_work (w.entry q c) o g (subst (λ (x : ℕ). w.entry q x ≡ Work o) (same_at c b l t.0) t.1))
+    only p q c (m ∷ ms) [] l g (b, t) =
+        absurd (there_work (w.entry q c) m.operation (subst (λ (x : ℕ). w.entry q x ≡ There) (same_at c b l t.0) t.1) g.0)
+    only p q c (m ∷ ms) (n ∷ ns) l g (b, o, t) =
+        let worked : w.entry q c ≡ Work o = subst (λ (x : ℕ). w.entry q x ≡ Work o) (same_at c b l t.0) t.1 in
+        let e : o ≡ m.operation = one_work (w.entry q c) o m.operation worked g.0 in
+        let f : n ≡ marks_of M m.outcome =
+        promised_one p c m.operation m.outcome n l g.2 (subst (λ (x : ℕ). Promised M p (marks_of M c) x n) e t.2) in
+        ap₂ {C = List ℕ} (λ (x : ℕ) (xs : List ℕ). x ∷ xs) f
+        (only (later p) q m.outcome ms ns (leads_inside p q c m ms g) g.3 (subst (λ (x : ℕ). Shows w M q (later p) x ns) f t.3))
+
 -- ── the rows ──
 
+abbrev asks : Row → Bool
+asks r = passes r.policy (start_at r.stage (Some r.condition)) (Ask r.request)
+
+abbrev goes_on : Row → Bool
+goes_on r = goes r.policy r.picks r.stage r.request r.condition r.moves
+
 abbrev right : Row → Bool
-right r =
-    passes r.policy (start_at r.stage (Some r.condition)) (Ask r.request)
-    && goes r.policy r.picks r.stage r.request r.condition r.moves
+right r = ltb r.condition (length r.policy.port.conditions) && (asks r && goes_on r)
 
 all_right : each right rows ≡ true
 unfolding lib.Count.ones
@@ -233,24 +301,34 @@ all_lived = refl
 spent : map (λ (r : Row). cost r.policy.model r.moves) rows ≡ map (λ (r : Row). r.spent) rows
 spent = refl
 
-policies_solved : (r : Row) → In r rows → Solved (world r.policy)
-policies_solved r i = subst (λ (x : PolicyRow). Solved (world x)) (sym (is_staithe r i)) (policies_hold staithe_minutes (inr (inl refl)))
-  where
-    is_staithe : (r : Row) → In r rows → r.policy ≡ staithe_minutes
-    is_staithe r (inl q) = ap (λ (x : Row). x.policy) q
-    is_staithe r (inr (inl q)) = ap (λ (x : Row). x.policy) q
-    is_staithe r (inr (inr n)) = absurd n
+all_shown : map (λ (r : Row). map (λ (m : Move). marks_of r.policy.port m.outcome) r.moves) rows ≡ map (λ (r : Row). r.shown) rows
+all_shown = refl
+
+is_staithe : (r : Row) → In r rows → r.policy ≡ staithe_minutes
+is_staithe r (inl q) = ap (λ (x : Row). x.policy) q
+is_staithe r (inr (inl q)) = ap (λ (x : Row). x.policy) q
+is_staithe r (inr (inr n)) = absurd n
+
+staithe_valid : Valid low_staithe
+staithe_valid = sheets_valid (record { sheet = low_staithe_sheet; told = port low_staithe }) (inl refl) low_staithe refl
 
 pub errands_hold : ErrandsHold
 errands_hold r i =
-    let h = (and-eq-true_iff (passes r.policy (start_at r.stage (Some r.condition)) (Ask r.request)) (goes r.policy r.picks r.stage r.request r.condition r.moves)).0
-    (each_in right rows all_right r i) in
+    let h = (and-eq-true_iff (ltb r.condition (length r.policy.port.conditions)) (asks r && goes_on r)).0 (each_in right rows all_right r i) in
+    let k = (and-eq-true_iff (asks r) (goes_on r)).0 h.1 in
+    let inside : r.condition < length r.policy.port.conditions = ltb-true r.condition (length r.policy.port.conditions) h.0 in
+    let valid : Valid r.policy.port = subst (λ (x : PolicyRow). Valid x.port) (sym (is_staithe r i)) staithe_valid in
+    let moves = goes_true r.policy r.picks r.stage r.request r.condition r.moves k.1 in
+    let shown = same_answers (λ (x : Row). map (λ (m : Move). marks_of x.policy.port m.outcome) x.moves) (λ (x : Row). x.shown) rows all_shown r i in
     record {
-      solved = policies_solved r i;
-      goes = goes_true r.policy r.picks r.stage r.request r.condition r.moves h.1;
-      alone = λ ms g. alone r.policy r.picks r.stage r.request r.condition r.moves ms h.1 g;
+      solved = subst (λ (x : PolicyRow). Solved (world x)) (sym (is_staithe r i)) (policies_hold staithe_minutes (inr (inl refl)));
+      goes = moves;
+      alone = λ ms g. alone r.policy r.picks r.stage r.request r.condition r.moves ms k.1 g;
       visits = same_answers (λ (x : Row). map (λ (m : Move). m.outcome) x.moves) (λ (x : Row). x.visits) rows visits r i;
-      asked = asked r.policy r.picks r.stage r.request r.condition r.moves h.0 h.1;
+      shows = subst (λ (ms : List ℕ). Shows (world r.policy) r.policy.port r.request r.picks (marks_of r.policy.port r.condition) ms) shown
+          (shows r.policy valid r.picks r.request r.condition r.moves inside moves);
+      only = λ ms s. only r.policy valid r.picks r.request r.condition r.moves ms inside moves s ∙ shown;
+      asked = asked r.policy r.picks r.stage r.request r.condition r.moves k.0 k.1;
       errand = same_answers lived told rows all_lived r i;
       spent = same_answers (λ (x : Row). cost x.policy.model x.moves) (λ (x : Row). x.spent) rows spent r i;
     }
