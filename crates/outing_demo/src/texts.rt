@@ -3,7 +3,7 @@ use control::{Answer, Reply};
 use costs::CostModel;
 use std::fmt;
 
-// A cost, as its columns.
+// A cost, as the name of its model and its columns.
 #[derive(Drop)]
 pub(crate) struct Columns<C: CostModel>(pub(crate) C::Cost);
 
@@ -11,6 +11,7 @@ impl<C: CostModel> fmt::Display for Columns<C> {
     fn fmt<W: fmt::Write>(&self, f: &mut fmt::Formatter<W>) -> fmt::Result {
         let name = C::NAME;
         write!(f, "{name}")?;
+        // Stays: a cost model tells a column by its number.
         for i in 0..C::COLUMNS {
             let column = C::column(self.0, i);
             write!(f, " {column}")?;
