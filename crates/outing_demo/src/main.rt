@@ -17,19 +17,10 @@ use port::Port;
 use refusals::show_refusals;
 use sheet::load;
 use sheets::LOW_STAITHE;
-use solver::{Tables, solved};
+use solver::solved;
 
 // The script of a lock: its one byte names the second of two outcomes.
 const SCRIPT: [u8; 1] = [0x01];
-
-// The policy of a solved port.
-fn policy_of<K: Copy>(tables: &Tables<K>) -> Policy<'_, K> {
-    Policy {
-        entries: &tables.entries,
-        costs: &tables.costs,
-        ranks: &tables.ranks,
-    }
-}
 
 // Works request 0 and then request 1, which leads back to the start stage, and gives up request 0 the next time.
 fn show_errands<C: CostModel, L: Lock + Drop>(
@@ -38,7 +29,7 @@ fn show_errands<C: CostModel, L: Lock + Drop>(
     lock: L,
 ) -> anyhow::Result<()> {
     let tables = solved::<C>(rt.alloc(), port)?;
-    let client = Client::<C, L>::open(rt, port, policy_of(&tables), lock)?;
+    let client = Client::<C, L>::open(rt, port, Policy::from(&tables), lock)?;
     client.errand(0)?.errand(1)?.give_up(0)
 }
 
@@ -67,7 +58,7 @@ fn run(rt: &HostRuntime) -> anyhow::Result<()> {
     show_locks::<MoveCount>(rt, &port)?;
     show_locks::<Minutes>(rt, &port)?;
     let tables = solved::<Minutes>(rt.alloc(), &port)?;
-    show_refusals(rt, &port, policy_of(&tables))?;
+    show_refusals(rt, &port, Policy::from(&tables))?;
     show_logs(rt, &port)
 }
 
