@@ -29,14 +29,6 @@ module _ (n : ℕ) (ms : List Move) (few : n ≤ 256) (exist : MovesExist n 256 
       let small = few in
       omega arith
 
-  -- and operations in one condition
-  pub operations_rise : (i j : ℕ) → i ≤ j → j < length ms → (at ms i).condition ≡ (at ms j).condition → (at ms i).operation ≤ (at ms j).operation
-  operations_rise i j h l same =
-      let x = keys i j h l in
-      let d = (exist j l).2 in
-      let small = few in
-      omega arith
-
 pub index_within : (index : MoveIndex) → Within (count_of index) (moves_of index)
 index_within index = in_each no_move (λ m. (m.condition < count_of index) × (m.outcome < count_of index)) (moves_of index) (λ i l. let e = (port_of index).moves_exist i l in (e.0, e.2))
 
@@ -51,3 +43,7 @@ pub port_sorted : (p : Port) → IsNonDecreasingBy (λ (m : Move). m.condition) 
 port_sorted p =
     IsNonDecreasingBy-from_default (λ (m : Move). m.condition) (vec_items p.moves) no_move
     (conditions_rise (vec_len p.conditions) (vec_items p.moves) p.conditions_few (port_exist p) p.moves_rise)
+
+-- and in their order
+pub port_keys : (p : Port) → IsNonDecreasingBy key (vec_items p.moves)
+port_keys p = IsNonDecreasingBy-from_default key (vec_items p.moves) no_move (keys (vec_len p.conditions) (vec_items p.moves) p.conditions_few (port_exist p) p.moves_rise)

@@ -1,6 +1,7 @@
 -- Lists and their places.
-use Rattle.std.proofs.Common.{◌≡◌, ℕ, zero, suc, ◌+◌, ◌-◌, ◌<◌, ◌≤◌, ◌⊎◌, List, [], ◌∷◌, ◌++◌, length, get_or, take, drop, sym, refl, ap, ◌∙◌, subst, inl, inr, ⊎_elim, arith}
-use Rattle.std.proofs.lemmas.List.{take_more, length-take-le, length-drop, get_or-take, get_or-drop}
+use Rattle.std.proofs.Common.{◌≡◌, ℕ, zero, suc, ◌+◌, ◌-◌, ◌<◌, ◌≤◌, ◌⊎◌, Bool, true, false, cond, List, [], ◌∷◌, ◌++◌, length, get_or, take, drop, filter, sym, refl, ap, ap₂, ◌∙◌, subst, inl, inr, ⊎_elim, true≢false, arith}
+use Rattle.std.proofs.lemmas.List.{take_more, take-append-drop, append-nil, length-take, length-take-le, length-drop, get_or-take, get_or-drop}
+use Rattle.std.proofs.lemmas.List.Elements.{filter-append}
 use Rattle.port.specs.Limits.{In}
 
 module _ {A : Type 0} (d : A) where
@@ -53,14 +54,58 @@ module _ {A : Type 0} (d : A) where
   pub part_at : (a b : ℕ) (xs : List A) (i : ℕ) → i < b - a → get_or (part a b xs) i d ≡ get_or xs (a + i) d
   part_at a b xs i l = get_or-take (b - a) (drop a xs) i d l ∙ get_or-drop a xs i d
 
-  pub in_part : (a b : ℕ) (xs : List A) → b ≤ length xs → (i : ℕ) → a ≤ i → i < b → In (get_or xs i d) (part a b xs)
-  in_part a b xs l i h g =
-      let short : i - a < length (part a b xs) = subst (λ n. i - a < n) (sym (part_length a b xs l)) (omega arith) in
-      let back : a + (i - a) ≡ i = omega arith in
-      subst (λ x. In x (part a b xs)) (part_at a b xs (i - a) (omega arith) ∙ ap (λ n. get_or xs n d) back) (in_get_d (part a b xs) (i - a) short)
+module _ {A : Type 0} (d : A) (p : A → Bool) where
+  -- a test that passes nothing, and one that passes all
+  filter_none : (xs : List A) → ((i : ℕ) → i < length xs → p (get_or xs i d) ≡ false) → filter p xs ≡ []
+  filter_none [] h = refl
+  filter_none (x ∷ xs) h = ap (λ b. cond b (x ∷ filter p xs) (filter p xs)) (h 0 (omega arith)) ∙ filter_none xs (λ i l. h (suc i) (omega arith))
 
-  pub part_in : (a b : ℕ) (xs : List A) → b ≤ length xs → (x : A) → In x (part a b xs) → (i : ℕ) × (a ≤ i) × (i < b) × (x ≡ get_or xs i d)
-  part_in a b xs l x h =
-      let p = in_at (part a b xs) x h in
-      let short : p.0 < b - a = subst (λ n. p.0 < n) (part_length a b xs l) p.1 in
-      (a + p.0, omega arith, omega arith, p.2 ∙ part_at a b xs p.0 short)
+  filter_whole : (xs : List A) → ((i : ℕ) → i < length xs → p (get_or xs i d) ≡ true) → filter p xs ≡ xs
+  filter_whole [] h = refl
+  filter_whole (x ∷ xs) h = ap (λ b. cond b (x ∷ filter p xs) (filter p xs)) (h 0 (omega arith)) ∙ ap (λ ys. x ∷ ys) (filter_whole xs (λ i l. h (suc i) (omega arith)))
+
+  -- a part outside which nothing passes, and inside which all does
+  pub filter_part : (a b : ℕ) (xs : List A) → a ≤ b → b ≤ length xs →
+      ((i : ℕ) → i < a → p (get_or xs i d) ≡ false) →
+      ((i : ℕ) → a ≤ i → i < b → p (get_or xs i d) ≡ true) →
+      ((i : ℕ) → b ≤ i → i < length xs → p (get_or xs i d) ≡ false) →
+      filter p xs ≡ part d a b xs
+  filter_part a b xs rise inside before within after =
+      let front : filter p (take a xs) ≡ [] = filter_none (take a xs) (λ i l. let k = length-take a xs in ap p (get_or-take a xs i d (omega arith)) ∙ before i (omega arith)) in
+      let middle : filter p (part d a b xs) ≡ part d a b xs =
+      filter_whole (part d a b xs) (λ i l. let k = part_length d a b xs inside in ap p (part_at d a b xs i (omega arith)) ∙ within (a + i) (omega arith) (omega arith)) in
+      let rest : filter p (drop (b - a) (drop a xs)) ≡ [] =
+      filter_none (drop (b - a) (drop a xs)) (λ i l.
+      let k = length-drop (b - a) (drop a xs) in
+      let m = length-drop a xs in
+      ap p (get_or-drop (b - a) (drop a xs) i d ∙ get_or-drop a xs (b - a + i) d) ∙ after (a + (b - a + i)) (omega arith) (omega arith)) in
+      sym (ap (filter p) (take-append-drop a xs)) ∙ filter-append p (take a xs) (drop a xs)
+      ∙ ap (λ ys. ys ++ filter p (drop a xs)) front
+      ∙ sym (ap (filter p) (take-append-drop (b - a) (drop a xs))) ∙ filter-append p (part d a b xs) (drop (b - a) (drop a xs))
+      ∙ ap₂ (λ ys zs. ys ++ zs) middle rest ∙ append-nil (part d a b xs)
+
+  keeps : (b : Bool) (x y : A) (ys : List A) → In y (cond b (x ∷ ys) ys) → ((y ≡ x) × (b ≡ true)) ⊎ In y ys
+  keeps true x y ys (inl e) = inl (e, refl)
+  keeps true x y ys (inr i) = inr i
+  keeps false x y ys i = inr i
+
+  keeps_last : (b : Bool) (x y : A) (ys : List A) → In y ys → In y (cond b (x ∷ ys) ys)
+  keeps_last true x y ys i = inr i
+  keeps_last false x y ys i = i
+
+  keeps_first : (b : Bool) (x y : A) (ys : List A) → b ≡ true → y ≡ x → In y (cond b (x ∷ ys) ys)
+  keeps_first true x y ys t e = inl e
+  keeps_first false x y ys t e = absurd (true≢false (sym t))
+
+  pub filter_in : (xs : List A) (y : A) → In y (filter p xs) → In y xs × (p y ≡ true)
+  filter_in [] y i = absurd i
+  filter_in (x ∷ xs) y i =
+      ⊎_elim
+      (λ h. (inl h.0, ap p h.0 ∙ h.1))
+      (λ j. let r = filter_in xs y j in (inr r.0, r.1))
+      (keeps (p x) x y (filter p xs) i)
+
+  pub in_filter : (xs : List A) (y : A) → In y xs → p y ≡ true → In y (filter p xs)
+  in_filter [] y i t = absurd i
+  in_filter (x ∷ xs) y (inl e) t = keeps_first (p x) x y (filter p xs) (sym (ap p e) ∙ t) e
+  in_filter (x ∷ xs) y (inr i) t = keeps_last (p x) x y (filter p xs) (in_filter xs y i t)

@@ -1,96 +1,67 @@
 -- What an index of moves finds.
-use Rattle.std.proofs.Common.{◌≡◌, ℕ, ◌+◌, ◌-◌, ◌<◌, ◌≤◌, Bool, true, false, List, [], length, get_or, vec_items, vec_len, sym, ap, ◌∙◌, subst, ⊎_elim, true≢false, arith}
-use Rattle.std.proofs.lemmas.Bool.{cases_lt}
-use Rattle.std.proofs.lemmas.List.{get_or_read_under}
-use Rattle.port.specs.Limits.{In, at, no_move, MovesExist, MovesRise}
+use Rattle.std.proofs.Common.{◌≡◌, ℕ, ◌+◌, ◌<◌, ◌≤◌, ◌==◌, Bool, true, false, Option, Some, None, List, [], length, Bor, vec_items, sym, ap, ◌∙◌, subst, ⊎_elim, true≢false, arith}
+use Rattle.std.proofs.lemmas.Bool.{cases_lt, eq-eqb, eqb-true, ne_eqb}
+use Rattle.std.specs.List.{ItemBy}
+use Rattle.std.specs.Option.{option_copied, unwrap_or}
+use Rattle.std.proofs.lemmas.List.Kept.{IsNonDecreasingBy-filter}
+use Rattle.port.specs.Limits.{In, at, key, no_move}
 use Rattle.port.specs.declared.Move.{Move}
+use Rattle.port.specs.declared.held.Port.{Port}
 use Rattle.plans.specs.Plans.{Within}
 use Rattle.index.specs.Indexed.{count_of, moves_of, port_of}
 use Rattle.index.specs.declared.MoveIndex.{MoveIndex}
-use Rattle.index.specs.Indexes.{Apart, Flags, From, Ordered, Starts, flagged}
-use Rattle.index.proofs.Bounds.{operations_rise, port_exist}
-use Rattle.index.proofs.Lists.{in_get_d, in_at, part, part_at, part_length, in_part, part_in}
+use Rattle.index.specs.Indexes.{Apart, Flags, From, Ordered, Start, flagged, row}
+use Rattle.index.proofs.Bounds.{index_within, port_keys}
+use Rattle.index.proofs.Lists.{filter_in, filter_part, in_at, in_each, in_filter, in_get_d, part}
 
-module _ (n : ℕ) (ms : List Move) (starts : List ℕ) (begin : Starts (n + 1) ms starts) where
-  pub starts_rise : (c : ℕ) → c < n → get_or starts c 0 ≤ get_or starts (c + 1) 0
-  starts_rise c l =
+-- the moves of condition c are those from its place to the next
+module _ (ms : List Move) (c a b : ℕ) (start : Start ms c a) (end : Start ms (c + 1) b) where
+  pub starts_rise : a ≤ b
+  starts_rise =
       ⊎_elim
       (λ q.
-      let e = (begin c (omega arith)).inside in
-      let x = (begin c (omega arith)).behind (get_or starts (c + 1) 0) q in
-      let y = (begin (c + 1) (omega arith)).ahead (get_or starts (c + 1) 0) (omega arith) (omega arith) in
+      let e = start.inside in
+      let x = start.behind b q in
+      let y = end.ahead b (omega arith) (omega arith) in
       absurd (omega arith))
       (λ q. q)
-      (cases_lt (get_or starts (c + 1) 0) (get_or starts c 0))
+      (cases_lt b a)
 
-  pub part_from : n ≤ 256 → MovesExist n 256 ms → MovesRise ms → (c : ℕ) → c < n → From ms c (part no_move (get_or starts c 0) (get_or starts (c + 1) 0) ms)
-  part_from few exist rise c l = record { are = are; all = all; ordered = ordered }
-    where
-      a : ℕ
-      a = get_or starts c 0
+  pub part_row : part no_move a b ms ≡ row c ms
+  part_row =
+      sym (filter_part no_move (λ m. m.condition == c) a b ms starts_rise end.inside
+      (λ i l. ne_eqb (at ms i).condition c (λ e. let x = start.behind i l in absurd (omega arith)))
+      (λ i h l. eq-eqb (at ms i).condition c (let r = end.inside in let x = start.ahead i h (omega arith) in let y = end.behind i l in omega arith))
+      (λ i h l. ne_eqb (at ms i).condition c (λ e. let x = end.ahead i h l in absurd (omega arith))))
 
-      b : ℕ
-      b = get_or starts (c + 1) 0
+-- a row has exactly the moves from its condition, in order of operation
+pub row_from : (p : Port) (c : ℕ) → From (vec_items p.moves) c (row c (vec_items p.moves))
+row_from p c = record { are = are; all = all; ordered = ordered }
+  where
+    ms : List Move
+    ms = vec_items p.moves
 
-      inside : b ≤ length ms
-      inside = (begin (c + 1) (omega arith)).inside
+    are : (m : Move) → In m (row c ms) → In m ms × (m.condition ≡ c)
+    are m h = let r = filter_in no_move (λ m. m.condition == c) ms m h in (r.0, eqb-true m.condition c r.1)
 
-      is_c : (i : ℕ) → a ≤ i → i < b → (at ms i).condition ≡ c
-      is_c i h g =
-          let w = inside in
-          let x = (begin (c + 1) (omega arith)).behind i g in
-          let y = (begin c (omega arith)).ahead i h (omega arith) in
-          omega arith
+    all : (m : Move) → In m ms → m.condition ≡ c → In m (row c ms)
+    all m h e = in_filter no_move (λ m. m.condition == c) ms m h (eq-eqb m.condition c e)
 
-      are : (m : Move) → In m (part no_move a b ms) → In m ms × (m.condition ≡ c)
-      are m h =
-          let p = part_in no_move a b ms inside m h in
-          let w = inside in
-          let u = p.2 in
-          (subst (λ (x : Move). In x ms) (sym p.3) (in_get_d no_move ms p.0 (omega arith)), ap (λ (x : Move). x.condition) p.3 ∙ is_c p.0 p.1 p.2)
+    small : (m : Move) → In m ms → m.outcome < 256
+    small = in_each no_move (λ m. m.outcome < 256) ms (λ i l. let x = p.moves_exist i l in let few = p.conditions_few in omega arith)
 
-      all : (m : Move) → In m ms → m.condition ≡ c → In m (part no_move a b ms)
-      all m h e =
-          let p = in_at no_move ms m h in
-          let same : (at ms p.0).condition ≡ c = ap (λ (x : Move). x.condition) (sym p.2) ∙ e in
-          let low : a ≤ p.0 = ⊎_elim (λ q. let x = (begin c (omega arith)).behind p.0 q in absurd (omega arith)) (λ q. q) (cases_lt p.0 a) in
-          let high : p.0 < b = ⊎_elim (λ q. q) (λ q. let x = (begin (c + 1) (omega arith)).ahead p.0 q p.1 in absurd (omega arith)) (cases_lt p.0 b) in
-          subst (λ (x : Move). In x (part no_move a b ms)) (sym p.2) (in_part no_move a b ms inside p.0 low high)
-
-      ordered : Ordered (part no_move a b ms)
-      ordered i j h l =
-          let w = inside in
-          let k : j < b - a = subst (λ n. j < n) (part_length no_move a b ms inside) l in
-          let x = is_c (a + i) (omega arith) (omega arith) in
-          let y = is_c (a + j) (omega arith) (omega arith) in
-          let le : (at ms (a + i)).operation ≤ (at ms (a + j)).operation = operations_rise n ms few exist rise (a + i) (a + j) (omega arith) (omega arith) (x ∙ sym y) in
-          subst (λ (z : Move). z.operation ≤ (at (part no_move a b ms) j).operation) (sym (part_at no_move a b ms i (omega arith)))
-          (subst (λ (z : Move). (at ms (a + i)).operation ≤ z.operation) (sym (part_at no_move a b ms j k)) le)
-
--- a is the place of condition c, and b the next
-pub record Row (index : MoveIndex) (c a b : ℕ) : Type 0 where
-  pub rise : a ≤ b
-  pub inside : b ≤ length (moves_of index)
-  pub from : From (moves_of index) c (part no_move a b (moves_of index))
-
--- as they are read
-pub row : (index : MoveIndex) (c a b : ℕ) → c < count_of index → a ≡ get_or (vec_items index.starts) c a → b ≡ get_or (vec_items index.starts) (c + 1) b → Row index c a b
-row index c a b l p q =
-    let n = count_of index in
-    let ms = moves_of index in
-    let starts = vec_items index.starts in
-    let starting = index.starting in
-    let first : a ≡ get_or starts c 0 = get_or_read_under starts c (vec_len index.starts) a 0 p (omega arith) index.starts.ok.0 in
-    let second : b ≡ get_or starts (c + 1) 0 = get_or_read_under starts (c + 1) (vec_len index.starts) b 0 q (omega arith) index.starts.ok.0 in
-    let rise = starts_rise n ms starts index.begin c l in
-    let inside = (index.begin (c + 1) (omega arith)).inside in
-    record {
-      rise = omega arith;
-      inside = omega arith;
-      from = subst (λ x. From ms c (part no_move x b ms)) (sym first)
-          (subst (λ x. From ms c (part no_move (get_or starts c 0) x ms)) (sym second)
-          (part_from n ms starts index.begin (port_of index).conditions_few (port_exist (port_of index)) (port_of index).moves_rise c l));
-    }
+    ordered : Ordered (row c ms)
+    ordered i j h l =
+        let f = at (row c ms) i in
+        let g = at (row c ms) j in
+        let first = are f (in_get_d no_move (row c ms) i (omega arith)) in
+        let second = are g (in_get_d no_move (row c ms) j l) in
+        let e = first.1 in
+        let k = second.1 in
+        let low = small f first.0 in
+        let high = small g second.0 in
+        let rise : key f ≤ key g = IsNonDecreasingBy-filter key (λ (m : Move). m.condition == c) ms (port_keys p) i j no_move h l in
+        omega arith
 
 -- a flag that is not set
 pub not_flagged : (ms : List Move) (into : List (List Bool)) → Flags ms (length ms) into → (c d : ℕ) → flagged into c d ≡ false → Apart ms c d
@@ -109,3 +80,20 @@ from_none n ms within c l = record {
   all = λ m h e. let w = (within m h).0 in absurd (omega arith);
   ordered = λ i j h g. absurd (omega arith);
 }
+
+-- a row as it is read: what is read in its place where there is none is empty
+pub read_row : (index : MoveIndex) (c : ℕ) (o : Option (Bor (Bor (List Move)))) (copy : Option (Bor (List Move))) (none r : Bor (List Move)) →
+    ItemBy (λ (x : Bor (Bor (List Move))). x.now) (vec_items index.rows) c c o → copy ≡ option_copied o → r ≡ unwrap_or copy none → none.now ≡ [] →
+    From (moves_of index) c r.now
+read_row index c (Some x) copy none r item copied told empty =
+    let l = item.3.0 in
+    let long = index.rows.ok.0 in
+    let each = index.counted in
+    let same : r ≡ x.now = told ∙ ap (λ (o : Option (Bor (List Move))). unwrap_or o none) copied in
+    subst (From (moves_of index) c) (sym (ap (λ (y : Bor (List Move)). y.now) same ∙ ap (λ (y : Bor (List Move)). y.now) (item.3.1 none) ∙ index.parted c none (omega arith))) (row_from (port_of index) c)
+read_row index c None copy none r item copied told empty =
+    let l = item.3 in
+    let long = index.rows.ok.0 in
+    let each = index.counted in
+    let same : r ≡ none = told ∙ ap (λ (o : Option (Bor (List Move))). unwrap_or o none) copied in
+    subst (From (moves_of index) c) (sym (ap (λ (y : Bor (List Move)). y.now) same ∙ empty)) (from_none (count_of index) (moves_of index) (index_within index) c (omega arith))

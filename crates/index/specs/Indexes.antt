@@ -1,5 +1,6 @@
 -- Where the moves from a condition, and those into one, are found.
-use Rattle.std.specs.Prelude.{◌≡◌, ℕ, ◌<◌, ◌≤◌, Bool, true, false, List, [], length, ◌≢◌, slice_index, slice_index_or}
+use Rattle.std.specs.Prelude.{◌≡◌, ℕ, ◌<◌, ◌≤◌, Bool, true, false, List, [], length, ◌≢◌, ◌==◌, filter, slice_index_or}
+use Rattle.std.specs.Borrow.{Bor}
 use Rattle.port.specs.Limits.{at, In}
 use Rattle.port.specs.declared.Move.{Move}
 
@@ -14,9 +15,13 @@ pub record Start (ms : List Move) (c place : ℕ) : Type 0 where
   pub behind : (i : ℕ) → i < place → (at ms i).condition < c
   pub ahead : (i : ℕ) → place ≤ i → i < length ms → c ≤ (at ms i).condition
 
--- such a place for each of the first n conditions
-abbrev pub Starts : ℕ → List Move → List ℕ → Type 0
-Starts n ms starts = (c : ℕ) → c < n → Start ms c (slice_index starts c)
+-- the moves from condition c, as they stand
+abbrev pub row : ℕ → List Move → List Move
+row c = filter (λ m. m.condition == c)
+
+-- a row for each of the first n conditions
+abbrev pub Rows : ℕ → List Move → List (Bor (List Move)) → Type 0
+Rows n ms rows = (c : ℕ) (r : Bor (List Move)) → c < n → (slice_index_or rows c r).now ≡ row c ms
 
 -- whether a row for each outcome, of a flag for each condition, has the flag of a move set
 abbrev pub flagged : List (List Bool) → ℕ → ℕ → Bool

@@ -1,7 +1,7 @@
 // How the index of a port is made.
 ghost use Rattle.std.specs.Prelude.{◌≡◌, ◌+◌, IfOk, vec_len};
 ghost use Rattle.index.specs.Indexed.{port_of};
-ghost use Rattle.index.specs.Indexes.{Flags, Start, Starts, Timed};
+ghost use Rattle.index.specs.Indexes.{Flags, Rows, Start, Timed, row};
 
 use super::MoveIndex;
 use port::{Move, Port};
@@ -30,12 +30,30 @@ fn start_of(port: &Port, c: usize) -> usize
     port.moves.partition_point(|m| (m.condition as usize) < c)
 }
 
-// Where the moves of each condition begin, and where those of the last end.
-fn starts_of(heap: Global, port: &Port) -> Result<Vec<usize>, AllocError>
-    ensures { IfOk result (λ v. (vec_len v ≡ vec_len port.now.conditions + 1) × Starts (vec_len port.now.conditions + 1) port.now.moves.items v.items) }
+// Where they end.
+// Stays: beside `start_of`, since of any `c` at all it is not known that there is a next number.
+fn end_of(port: &Port, c: usize) -> usize
+    ensures { Start port.now.moves.items (c + 1) result }
 {
-    let places = port.conditions.len() + 1;
-    (0..places).map(|c| start_of(port, c)).collect(heap)
+    port.moves.partition_point(|m| (m.condition as usize) <= c)
+}
+
+// The moves from condition `c`.
+fn row_of(port: &Port, c: usize) -> &[Move]
+    ensures { result.now ≡ row c port.now.moves.items }
+{
+    let start = start_of(port, c);
+    let end = end_of(port, c);
+    &port.moves[start..end]
+}
+
+// For each condition the moves from it.
+fn rows_of<'a>(heap: Global, port: &'a Port) -> Result<Vec<&'a [Move]>, AllocError>
+    ensures { IfOk result (λ v. (vec_len v ≡ vec_len port.now.conditions) × Rows (vec_len port.now.conditions) port.now.moves.items v.items) }
+{
+    (0..port.conditions.len())
+        .map(|c| row_of(port, c))
+        .collect(heap)
 }
 
 // For each outcome, from which conditions a move leads to it.
@@ -55,8 +73,8 @@ impl<'a> MoveIndex<'a> {
         ensures { IfOk result (λ index. port_of index ≡ port.now) }
     {
         bound_minutes(&port.moves);
-        let starts = starts_of(heap, port)?;
+        let rows = rows_of(heap, port)?;
         let into = into_of(heap, port)?;
-        Ok(MoveIndex { port, starts, into })
+        Ok(MoveIndex { port, rows, into })
     }
 }

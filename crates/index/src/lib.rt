@@ -1,8 +1,8 @@
 // A port with an index of the moves from a condition and of those into one: made once for all searches.
 #![tactic(auto)]
 
-ghost use Rattle.std.specs.Prelude.{◌≡◌, ◌+◌, false, vec_len};
-ghost use Rattle.index.specs.Indexes.{Apart, Flags, From, Starts, Timed};
+ghost use Rattle.std.specs.Prelude.{◌≡◌, false, vec_len};
+ghost use Rattle.index.specs.Indexes.{Apart, Flags, From, Rows, Timed};
 
 mod build;
 
@@ -11,18 +11,18 @@ use port::{Move, Port};
 #[derive(Drop)]
 pub struct MoveIndex<'a> {
     port: &'a Port,
-    // The moves from a condition begin at its place here, and end at the next.
-    starts: Vec<usize>,
+    // For each condition the moves from it.
+    rows: Vec<&'a [Move]>,
     // A row for each outcome: whether a move leads to it from a condition.
     into: Vec<[bool; 256]>,
     ghost timed: { Timed port.now.moves.items },
-    ghost starting: { vec_len starts ≡ vec_len port.now.conditions + 1 },
-    ghost begin: { Starts (vec_len port.now.conditions + 1) port.now.moves.items starts.items },
+    ghost counted: { vec_len rows ≡ vec_len port.now.conditions },
+    ghost parted: { Rows (vec_len port.now.conditions) port.now.moves.items rows.items },
     ghost wide: { vec_len into ≡ vec_len port.now.conditions },
     ghost flags: { Flags port.now.moves.items (vec_len port.now.moves) into.items },
 }
 
-impl MoveIndex<'_> {
+impl<'a> MoveIndex<'a> {
     pub fn conditions(&self) -> usize
         ensures { result ≡ vec_len self.now.port.now.conditions }
     {
@@ -39,12 +39,9 @@ impl MoveIndex<'_> {
     pub fn moves_from(&self, c: usize) -> &[Move]
         ensures { From self.now.port.now.moves.items c result.now }
     {
-        if c >= self.conditions() {
-            return &[];
-        }
-        let start = self.starts[c];
-        let end = self.starts[c + 1];
-        &self.port.moves[start..end]
+        // Stays: tried as one expression: it is not covered where a row is lent for less than the port's lifetime.
+        let row: &'a [Move] = self.rows.get(c).copied().unwrap_or(&[]);
+        row
     }
 
     // Whether some move may lead from condition `c` to `d`.
