@@ -12,8 +12,8 @@ use costs::CostModel;
 use histories::Command;
 use locks::Lock;
 
-// Stays: each call takes its own reply out of what `rule` comes to. It is a rule of the project that one match, on what is out and on the
-// command together, decides on every call; to go by `rule_quote` and its like directly would put tests of what is out beside it.
+// Stays: each call takes its own reply out of what `rule` comes to, and `perform` goes by the calls. With `rule_quote` and its like called
+// directly, three of the calls would each test what is out, which the one match in `rule` shows as a whole.
 impl<'a, C: CostModel> Controller<'a, C> {
     // What a request would cost: the policy's cost for it, where the lock stands.
     pub fn quote<L: Lock>(&self, request: u8, lock: &L) -> Result<C::Cost, Refusal>

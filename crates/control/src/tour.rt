@@ -58,6 +58,8 @@ impl From<Refusal> for OutingError {
 
 impl<'a, C: CostModel> Controller<'a, C> {
     // Carries out commands, one after another, and logs the answer to each.
+    // Stays: `home` as a clause of this and of `outing`, for the reason told at `work_on`: within what they say of the log it would take the lock's
+    // port after the calls as one argument more.
     fn run<L: Lock>(&mut self, commands: &[Command], lock: &mut L, log: &mut Vec<Answer<C::Cost>>)
         requires empty { log.old.items ≡ [] }
         requires room { length commands.now ≤ vec_capacity log.old }

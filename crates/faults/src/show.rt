@@ -3,6 +3,7 @@ ghost use Rattle.std.specs.Prelude.{Some};
 ghost use Rattle.faults.specs.Faults.{error_text};
 
 use crate::errors::LoadError;
+use std::error::Error;
 use std::fmt;
 
 impl fmt::Display for LoadError {
@@ -21,3 +22,5 @@ impl fmt::Display for LoadError {
         }
     }
 }
+
+impl Error for LoadError {}

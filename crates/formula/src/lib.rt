@@ -43,6 +43,7 @@ struct Spot<'a> {
 
 impl<'a> Spot<'a> {
     // Another place in the text.
+    // Stays: each field, since Rattle has no `..self` for a struct with a ghost field.
     fn at(self, place: usize) -> Spot<'a>
         requires { place ≤ length self.text.now }
         ensures text { result.text.now ≡ self.entry.text.now }

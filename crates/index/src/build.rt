@@ -31,7 +31,7 @@ fn start_of(port: &Port, c: usize) -> usize
 }
 
 // Where they end.
-// Stays: beside `start_of`, since of any `c` at all it is not known that there is a next number.
+// Stays: beside `start_of`, and not that of `c + 1`, which would need a test first that there is such a number.
 fn end_of(port: &Port, c: usize) -> usize
     ensures { Start port.now.moves.items (c + 1) result }
 {

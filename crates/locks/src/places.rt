@@ -15,7 +15,7 @@ pub fn condition_of(port: &Port, marks: u16) -> Option<u8>
 }
 
 // The moves of the operation in the condition: they stand together, in order of outcome.
-// Stays: condition and operation as two parameters: one is where a lock stands, the other what it is bidden.
+// Stays: condition and operation as two parameters, as in the public `is_possible`: a pair would be made by each caller to be taken apart.
 pub(crate) fn moves_of(port: &Port, condition: u8, operation: u8) -> &[Move]
     ensures { mapped (λ m. m.outcome) result.now ≡ outcomes (model_of port.now).moves condition operation }
 {

@@ -88,6 +88,7 @@ impl<'a, C: CostModel, L: Lock + Drop> Client<'a, C, L> {
     }
 
     // Ends a request. Where its grant cannot be closed, breaks off, so that controller and grant are gone.
+    // Stays: by a match, since the grant comes back with the refusal and `?` would let it go.
     fn end(mut self, grant: Grant<C::Cost>) -> anyhow::Result<Client<'a, C, L>> {
         match self.close(grant) {
             Ok(stage) => {

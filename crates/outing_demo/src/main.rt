@@ -7,7 +7,6 @@ mod refusals;
 mod sheets;
 mod texts;
 
-use anyhow::bail;
 use client::Client;
 use control::Policy;
 use costs::{CostModel, Minutes, MoveCount};
@@ -52,9 +51,7 @@ fn show_logs(rt: &HostRuntime, port: &Port) -> anyhow::Result<()> {
 
 fn run(rt: &HostRuntime) -> anyhow::Result<()> {
     let mut port = Port::new(rt.alloc())?;
-    if let Err(fault) = load(&mut port, rt.alloc(), &LOW_STAITHE) {
-        bail!("{fault}");
-    }
+    load(&mut port, rt.alloc(), &LOW_STAITHE)?;
     show_locks::<MoveCount>(rt, &port)?;
     show_locks::<Minutes>(rt, &port)?;
     let tables = solved::<Minutes>(rt.alloc(), &port)?;

@@ -1,6 +1,6 @@
 // Every refusal that a client can provoke.
 use crate::texts::Told;
-use control::{Answer, Controller, Policy, Refusal, Reply};
+use control::{Answer, Controller, Grant, Policy, Refusal, Reply};
 use costs::{Minutes, Time};
 use locks::{LeastChangeLock, Lock, ScriptedLock};
 use port::Port;
@@ -76,8 +76,7 @@ impl<'a> Desk<'a> {
         let other = self.open(&lock)?;
         let grant = controller.ask(0, &lock)?;
         let stepped = other.step(&grant, &mut lock);
-        controller.break_off(grant);
-        Ok(Reply::Worked(stepped?))
+        gave_up(controller, grant, stepped)
     }
 
     // Asks at the start, and steps over a lock that stands where the request has arrived.
@@ -85,11 +84,11 @@ impl<'a> Desk<'a> {
         let mut controller = self.open(&self.lock(0))?;
         let grant = controller.ask(0, &self.lock(0))?;
         let stepped = controller.step(&grant, &mut self.lock(1));
-        controller.break_off(grant);
-        Ok(Reply::Worked(stepped?))
+        gave_up(controller, grant, stepped)
     }
 
     // Closes before the request has arrived.
+    // Stays: by a match here, as in `Controller::close`, since the grant comes back with the refusal; in `asked_again`, since a grant may come.
     fn closed_early(&self) -> Answer<Time> {
         let lock = self.lock(0);
         let mut controller = self.open(&lock)?;
@@ -123,9 +122,18 @@ impl<'a> Desk<'a> {
         let mut controller = self.open(&lock)?;
         let grant = controller.ask(0, &lock)?;
         let stepped = controller.step(&grant, &mut lock);
-        controller.break_off(grant);
-        Ok(Reply::Worked(stepped?))
+        gave_up(controller, grant, stepped)
     }
+}
+
+// What a step came to, after which the client gives up.
+fn gave_up(
+    controller: Controller<'_, Minutes>,
+    grant: Grant<Time>,
+    stepped: Result<u8, Refusal>,
+) -> Answer<Time> {
+    controller.break_off(grant);
+    Ok(Reply::Worked(stepped?))
 }
 
 fn show(rt: &HostRuntime, call: &str, answer: Answer<Time>) -> anyhow::Result<()> {

@@ -11,7 +11,8 @@ impl<C: CostModel> fmt::Display for Columns<C> {
     fn fmt<W: fmt::Write>(&self, f: &mut fmt::Formatter<W>) -> fmt::Result {
         let name = C::NAME;
         write!(f, "{name}")?;
-        // Stays: a cost model tells a column by its number.
+        // Stays: a cost model tells a column by its number, so that there are no items to go over. The page's loop of this kind writes into a
+        // text, with another error.
         for i in 0..C::COLUMNS {
             let column = C::column(self.0, i);
             write!(f, " {column}")?;

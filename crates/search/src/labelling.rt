@@ -26,6 +26,8 @@ fn begin<C: CostModel>(
 }
 
 // The least cost of a plan from each condition to the goal, or none where there is no plan.
+// Stays: index, keep and goal as parameters, as in the public call. `Known` is made of them anew at each turn, since it lends the costs that
+// the loop changes.
 fn solve<'a, C: CostModel>(
     heap: Global,
     index: &'a MoveIndex,
@@ -41,7 +43,7 @@ fn solve<'a, C: CostModel>(
         goal,
         costs: &costs,
     };
-    // Stays: beside the costs, and not a row of pairs: the definitions speak of final costs and of offers apart.
+    // Stays: beside the costs, and not a row of pairs, since the costs are lent while the offers are written.
     let mut offers = known.offers(heap)?;
     // Stays: the offers change with each label, so that no iterator can go over them.
     while let Some(label) = least::<C>(&offers) {
