@@ -1,0 +1,5 @@
+pub mod Rows
+pub mod Bits
+pub mod Parts
+pub mod Formulas
+pub mod Truths
