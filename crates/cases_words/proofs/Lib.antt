@@ -3,3 +3,6 @@ pub mod Bits
 pub mod Parts
 pub mod Formulas
 pub mod Truths
+pub mod Limits
+pub mod Ports
+pub mod Requests

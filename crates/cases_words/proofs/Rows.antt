@@ -8,12 +8,12 @@ use Rattle.reading.proofs.Steps.{same_self}
 use Rattle.cases_words.specs.Rows.{Said, Row, Shown}
 
 -- where two lists of answers are the same, so are the answers for each row
-same_answers : {A B : Type 0} (f g : A → B) (rows : List A) → map f rows ≡ map g rows → (r : A) → In r rows → f r ≡ g r
+pub same_answers : {A B : Type 0} (f g : A → B) (rows : List A) → map f rows ≡ map g rows → (r : A) → In r rows → f r ≡ g r
 same_answers f g [] e r i = absurd i
 same_answers f g (x ∷ xs) e r (inl q) = let h : f x ≡ g x = cc in ap f q ∙ h ∙ ap g (sym q)
 same_answers f g (x ∷ xs) e r (inr i) = let h : map f xs ≡ map g xs = cc in same_answers f g xs h r i
 
-said : {P : Type 0} (test stands : Bool) → test ≡ stands → Decides test P → Said stands P
+pub said : {P : Type 0} (test stands : Bool) → test ≡ stands → Decides test P → Said stands P
 said test true e d = d.0 e
 said test false e d = λ p. false≢true (sym e ∙ d.1 p)
 
