@@ -6,3 +6,5 @@ pub mod Truths
 pub mod Limits
 pub mod Ports
 pub mod Requests
+pub mod Fields
+pub mod Records

@@ -141,7 +141,7 @@ text_decides marks t =
 pub members_hold : MembersHold
 members_hold = all_said _ (λ (r : InRow). is_in r.member r.list) (λ (r : InRow). r.stands) (λ r. in_decides r.member r.list) members refl
 
-abbrev move_code : Move → List ℕ
+abbrev pub move_code : Move → List ℕ
 move_code v = v.condition ∷ v.operation ∷ v.outcome ∷ v.minutes ∷ []
 
 pub moves_at_shown : MovesAtShown

@@ -56,14 +56,14 @@ headed h = port h conditions moves (go ∷ back ∷ [])
 abbrev conditioned : Header → List ℕ → Model
 conditioned h cs = port h cs [] (go ∷ back ∷ [])
 
-abbrev moved : List Move → Model
+abbrev pub moved : List Move → Model
 moved ms = port heads conditions ms (go ∷ back ∷ [])
 
 abbrev asked : List RequestModel → Model
 asked qs = port heads conditions moves qs
 
 -- so many moves from condition 0 of 256, by 32 operations
-abbrev many_moves : ℕ → Model
+abbrev pub many_moves : ℕ → Model
 many_moves n = port (header 8 32 1 0 255) (numbers 256) (map (λ i. move 0 (i / 256) (i % 256) 0) (numbers n)) []
 
 pub record PortRow : Type 0 where
