@@ -140,11 +140,11 @@ one_place n t p q a b =
       | no l ↦ elim (dec_lt q p) [ yes k ↦ absurd (no_later n t q p b a k) | no k ↦ omega arith ]
     ]
 
-abbrev is_stuck : Verdict → ℕ → Bool
+abbrev pub is_stuck : Verdict → ℕ → Bool
 is_stuck whole p = false
 is_stuck (stuck q) p = eqb q p
 
-faulty_by : (n : ℕ) (t : List ℕ) (p : ℕ) (v : Verdict) → Judged n t v → Decides (is_stuck v p) (NoFormula n t p)
+pub faulty_by : (n : ℕ) (t : List ℕ) (p : ℕ) (v : Verdict) → Judged n t v → Decides (is_stuck v p) (NoFormula n t p)
 faulty_by n t p whole j = (λ e. absurd (false≢true e), λ f. absurd (f.none 0 (j 0).0 (j 0).1))
 faulty_by n t p (stuck q) j =
     (λ e. subst (NoFormula n t) (eqb-true q p e) j, λ f. eq-eqb q p (one_place n t q p j f))

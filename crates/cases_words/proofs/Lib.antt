@@ -8,3 +8,5 @@ pub mod Ports
 pub mod Requests
 pub mod Fields
 pub mod Records
+pub mod Sheets
+pub mod Faults

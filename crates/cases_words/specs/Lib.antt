@@ -7,3 +7,5 @@ pub mod Ports
 pub mod Requests
 pub mod Fields
 pub mod Records
+pub mod Sheets
+pub mod Faults

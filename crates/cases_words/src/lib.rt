@@ -3,12 +3,14 @@
 #![tactic(auto)]
 
 ghost use Rattle.cases_words.specs.Bits.{BitsShown, StepsShown, VerdictsShown};
+ghost use Rattle.cases_words.specs.Faults.{FaultLayersShown, FaultLinesShown, FaultNumbersShown, FaultPlacesShown};
 ghost use Rattle.cases_words.specs.Fields.{AmountsShown, ConstantsShown, FieldTextsShown, HeadingsShown, NumbersShown, TestsShown};
 ghost use Rattle.cases_words.specs.Formulas.{FaultyHold, PartsHold, PlacesHold, ReadPartsHold, RefusalsHold, WholesHold};
 ghost use Rattle.cases_words.specs.Limits.{ExistingHold, KeysShown, MarkedHold, MembersHold, MovesAtShown, RisingHold, RisingMovesHold, TextsHold};
 ghost use Rattle.cases_words.specs.Ports.{LargeHold, PortsHold};
 ghost use Rattle.cases_words.specs.Records.{BeginsShown, ConditionsShown, EntriesShown, GrownShown, LengthsHold, MovesShown, RecordTestsShown, RequestsShown, SizedHold};
 ghost use Rattle.cases_words.specs.Requests.{RequestsHold};
+ghost use Rattle.cases_words.specs.Sheets.{BytesHold, JudgementsHold, MapBitsShown, Needed, OnliesHold, ReadsShown, WrittenShown};
 ghost use Rattle.cases_words.specs.Truths.{TruthsShown, ValuesShown};
 
 // Tests of truth values, marks and bytes.
@@ -266,6 +268,83 @@ pub fn sized_stand() -> bool
 // Texts of 1 to 63 bytes.
 pub fn lengths_stand() -> bool
     ensures { LengthsHold }
+{
+    true
+}
+
+// The bytes of ports and of their parts.
+pub fn written_stand() -> bool
+    ensures { WrittenShown }
+{
+    true
+}
+
+// The bits of a map byte.
+pub fn map_bits_stand() -> bool
+    ensures { MapBitsShown }
+{
+    true
+}
+
+// Lists of bytes.
+pub fn bytes_stand() -> bool
+    ensures { BytesHold }
+{
+    true
+}
+
+// Sheets that are read, and where they are refused.
+pub fn reads_stand() -> bool
+    ensures { ReadsShown }
+{
+    true
+}
+
+// The only sheet of a port.
+pub fn onlies_stand() -> bool
+    ensures { OnliesHold }
+{
+    true
+}
+
+// What a reading may say of a text.
+pub fn judgements_stand() -> bool
+    ensures { JudgementsHold }
+{
+    true
+}
+
+// The premises of the theorems on sheets are needed.
+pub fn premises_stand() -> bool
+    ensures { Needed }
+{
+    true
+}
+
+// The numbers of faults.
+pub fn fault_numbers_stand() -> bool
+    ensures { FaultNumbersShown }
+{
+    true
+}
+
+// The places of faults.
+pub fn fault_places_stand() -> bool
+    ensures { FaultPlacesShown }
+{
+    true
+}
+
+// The layers of faults.
+pub fn fault_layers_stand() -> bool
+    ensures { FaultLayersShown }
+{
+    true
+}
+
+// What errors are printed as.
+pub fn fault_lines_stand() -> bool
+    ensures { FaultLinesShown }
 {
     true
 }
