@@ -1,5 +1,5 @@
 -- The rows of what the grammar computes.
-use Rattle.std.proofs.Common.{◌≡◌, ℕ, Bool, cond, List, [], ◌∷◌, refl}
+use Rattle.std.proofs.Common.{ℕ, Bool, cond, List, [], ◌∷◌, refl}
 use Rattle.formula.specs.Grammar.{Next, refuse, to, step, Verdict, whole, stuck, goes, verdict}
 use Rattle.cases_words.specs.Bits.{bits, steps, verdicts, BitsShown, StepsShown, VerdictsShown}
 use Rattle.cases_words.proofs.Rows.{all_shown}

@@ -1,16 +1,16 @@
 -- The rows of texts and their parts.
-use Rattle.std.proofs.Common.{◌≡◌, ℕ, zero, suc, ◌+◌, ◌<◌, ◌≤◌, ◌≢◌, Bool, true, false, cond, not, ◌&&◌, eqb, ltb, leb, List, [], ◌∷◌, ◌++◌, length, get_or, take, codes, sym, refl, ap, ◌∙◌, subst, arith, eqb-true, eq-eqb}
+use Rattle.std.proofs.Common.{◌≡◌, ℕ, zero, suc, ◌+◌, ◌<◌, ◌≤◌, Bool, false, not, ◌&&◌, eqb, List, [], ◌∷◌, ◌++◌, length, take, codes, refl, ap, subst, arith, eqb-true, eq-eqb}
 use mathlib.Core.Bool.{false≢true}
 use native.Mathlib.Decide.{dec_lt}
 use Rattle.std.specs.Bool.{Decides}
 use Rattle.std.proofs.lemmas.Bool.Decides.{Decides-and, Decides-not, Decides-like}
 use Rattle.formula.specs.Grammar.{Part, atom, product, sum, Stands, Whole, Verdict, whole, stuck, goes, step, verdict, opens, AtomRead, ProductRead, SumRead, Refused, NoFormula}
-use Rattle.formula.proofs.Language.{went, complete, read_whole, no_formula, lies}
+use Rattle.formula.proofs.Language.{went}
 use Rattle.reading.proofs.Words.{grammatical}
 use Rattle.reading.specs.Theorems.{Judged}
 use Rattle.cases_words.specs.Formulas.{PartRow, parts, PartsHold, PlaceRow, places, PlacesHold, WholeRow, wholes, WholesHold, ReadAs, read_parts, ReadPartsHold, RefusedRow, refusals, RefusalsHold, FaultyRow, faulty, FaultyHold}
 use Rattle.cases_words.specs.Rows.{Said}
-use Rattle.cases_words.proofs.Rows.{all_said, apart, Each, each_in}
+use Rattle.cases_words.proofs.Rows.{all_said, apart, each_in}
 use Rattle.cases_words.proofs.Bits.{verdict_code}
 use Rattle.cases_words.proofs.Parts.{finds, here, is_here, here_is, is_part, part_decided, spans}
 

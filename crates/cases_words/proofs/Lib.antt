@@ -6,6 +6,7 @@ pub mod Truths
 pub mod Limits
 pub mod Ports
 pub mod Requests
+pub mod Held
 pub mod Fields
 pub mod Records
 pub mod Sheets

@@ -1,12 +1,12 @@
 -- Tests that decide what ports keep to.
-use Rattle.std.proofs.Common.{◌≡◌, ℕ, zero, suc, ◌+◌, ◌^◌, ◌<◌, ◌≤◌, Bool, true, false, cond, ◌&&◌, ◌||◌, eqb, ltb, leb, List, [], ◌∷◌, length, get_or, sym, refl, ap, ◌∙◌, subst, arith, inl, inr, eqb-true, eq-eqb, ltb-true, lt-ltb, leb-true, le-leb}
+use Rattle.std.proofs.Common.{◌≡◌, ℕ, zero, suc, ◌^◌, ◌<◌, ◌≤◌, Bool, true, false, ◌&&◌, ◌||◌, eqb, ltb, leb, List, [], ◌∷◌, length, get_or, sym, refl, subst, arith, inl, inr, ltb-true, lt-ltb, leb-true, le-leb}
 use mathlib.Core.Bool.{and-eq-true_iff, false≢true}
 use Rattle.std.specs.Bool.{Decides}
 use Rattle.std.proofs.lemmas.Bool.Decides.{Decides-and, Decides-or, Decides-like, Decides-ltb, Decides-eqb}
 use Rattle.formula.specs.Grammar.{step, goes, verdict}
 use Rattle.formula.specs.Truth.{is_formula}
 use Rattle.port.specs.declared.Move.{Move}
-use Rattle.port.specs.Limits.{In, no_move, at, Marked, Rise, key, MovesExist, MovesRise, TextOk}
+use Rattle.port.specs.Limits.{In, no_move, Marked, Rise, key, MovesExist, MovesRise, TextOk}
 use Rattle.cases_words.specs.Limits.{InRow, members, MembersHold, moves_at, MovesAtShown, keys, KeysShown, MarkedRow, marked, MarkedHold, RiseRow, rising, RisingHold, MovesRow, existing, ExistingHold, rising_moves, RisingMovesHold, TextRow, texts, TextsHold}
 use Rattle.cases_words.proofs.Rows.{all_said, all_shown}
 

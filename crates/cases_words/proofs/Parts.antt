@@ -1,5 +1,5 @@
 -- Whether bytes of a text are a part of a kind with a value, decided by a search over all ways to read it.
-use Rattle.std.proofs.Common.{◌≡◌, ℕ, zero, suc, ◌+◌, ◌-◌, ◌*◌, ◌<◌, ◌≤◌, Bool, true, false, cond, ◌&&◌, ◌||◌, eqb, ltb, leb, List, [], ◌∷◌, length, get_or, sym, refl, ap, ◌∙◌, subst, arith, inl, inr, ◌⊎◌, ltb-true, leb-true, eqb-true, lt-ltb, le-leb, eq-eqb}
+use Rattle.std.proofs.Common.{◌≡◌, ℕ, zero, suc, ◌+◌, ◌-◌, ◌*◌, ◌<◌, ◌≤◌, Bool, true, false, cond, ◌&&◌, ◌||◌, eqb, ltb, leb, List, length, get_or, sym, refl, ap, ◌∙◌, subst, arith, inl, inr, ◌⊎◌, ltb-true, leb-true, eqb-true, lt-ltb, le-leb, eq-eqb}
 use mathlib.Core.Bool.{and-eq-true_iff, false≢true}
 use Rattle.std.specs.Bool.{Decides}
 use Rattle.formula.specs.Grammar.{Part, atom, product, sum, Formula, nought, one, mark, not, group, single, and, only, or, both, some, flip, stands}

@@ -1,11 +1,9 @@
 -- The rows of records.
-use Rattle.std.proofs.Common.{◌≡◌, ℕ, ◌<◌, ◌≤◌, Bool, true, ◌&&◌, ltb, leb, List, [], ◌∷◌, ◌++◌, length, map, refl, arith}
-use mathlib.Core.List as List
+use Rattle.std.proofs.Common.{ℕ, Bool, true, ◌&&◌, ltb, leb, List, [], ◌∷◌, ◌++◌, length, refl}
 use Rattle.std.specs.Bool.{Decides}
 use Rattle.std.proofs.lemmas.Bool.Decides.{Decides-and, Decides-ltb}
 use Rattle.formula.specs.Grammar.{step, goes, verdict}
 use Rattle.port.specs.declared.Move.{Move}
-use Rattle.port.specs.Limits.{key}
 use Rattle.port.specs.Model.{Model, RequestModel}
 use Rattle.reading.specs.Reading.{and_then, provided, byte, bytes, number, field, minutes, text_length, whole_text, judged, text, rises, condition, move, request, Head, admitted, head, body, Entry, condition_entry, move_entry, request_entry, entry, Sized, EntrySized, add}
 use Rattle.cases_words.specs.Records.{conditions, moves, requests, tests, begins, entries, grown, SizedRow, sized, SizedHold, LengthRow, lengths, LengthsHold, ConditionsShown, MovesShown, RequestsShown, RecordTestsShown, BeginsShown, EntriesShown, GrownShown}

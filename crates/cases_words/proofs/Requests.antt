@@ -1,20 +1,21 @@
 -- Requests as they are held in memory: those that a model tells, and what they keep to.
-use Rattle.std.proofs.Common.{◌≡◌, ℕ, ◌+◌, ◌<◌, ◌≤◌, Bool, true, ◌&&◌, ltb, leb, List, [], ◌∷◌, length, map, sym, refl, ap, ◌∙◌, arith, ltb-true, leb-true}
+use Rattle.std.proofs.Common.{◌≡◌, ℕ, ◌<◌, ◌≤◌, Bool, true, ◌&&◌, ltb, leb, List, [], ◌∷◌, length, map, refl, ap, ◌∙◌, arith, ltb-true, leb-true}
 use mathlib.Core.Bool.{and-eq-true_iff}
 use denote.RawPtr.{null_ptr}
 use Rattle.std.specs.Global.{Global, Vec}
 use Rattle.std.specs.Vec.{vec_items}
 use Rattle.std.specs.Bool.{Decides}
+use Rattle.std.proofs.lemmas.Bool.Decides.{Decides-and, Decides-ltb}
 use Rattle.formula.specs.Grammar.{step, goes, verdict}
 use Rattle.formula.specs.Truth.{is_formula}
 use Rattle.port.specs.declared.Text.{Text}
 use Rattle.port.specs.declared.Request.{Request}
-use Rattle.port.specs.Limits.{In, Staged, KeepsWorded, ReachesWorded}
+use Rattle.port.specs.Limits.{In}
 use Rattle.port.specs.Model.{RequestModel, request_model}
 use Rattle.cases_words.specs.Rows.{Said}
-use Rattle.cases_words.specs.Requests.{RequestsRow, requests, Holds, RequestsHold}
-use Rattle.cases_words.proofs.Rows.{said, same_answers, Each, each_in}
-use Rattle.cases_words.proofs.Limits.{each, each_member, true_decides}
+use Rattle.cases_words.specs.Requests.{RequestsRow, requests, RequestsHold}
+use Rattle.cases_words.proofs.Rows.{said, same_answers}
+use Rattle.cases_words.proofs.Limits.{each, each_member, leb_decides, true_decides}
 use Rattle.cases_words.proofs.Ports.{staged, staged_decides}
 
 -- ── requests in memory ──
@@ -37,9 +38,9 @@ sized w = fits w.keep && fits w.reach
 abbrev each_sized : List RequestModel → Bool
 each_sized ws = each sized ws
 
-record Held (ws : List RequestModel) : Type 0 where
-  requests : List Request
-  such : map request_model requests ≡ ws
+pub record Held (ws : List RequestModel) : Type 0 where
+  pub requests : List Request
+  pub such : map request_model requests ≡ ws
 
 held : (heap : Global) (ws : List RequestModel) → each_sized ws ≡ true → Held ws
 unfolding text_of
@@ -50,6 +51,16 @@ held heap (w ∷ ws) e =
     let rest = held heap ws h.1 in
     let q : Request = record { from = w.from; to = w.to; keep = text_of heap w.keep (fitting w.keep s.0); reach = text_of heap w.reach (fitting w.reach s.1) } in
     record { requests = q ∷ rest.requests; such = ap (λ (xs : List RequestModel). w ∷ xs) rest.such }
+
+fits_decides : (t : List ℕ) → Decides (fits t) ((0 < length t) × (length t ≤ 63))
+fits_decides t = Decides-and (ltb 0 (length t)) (leb (length t) 63) (Decides-ltb 0 (length t)) (leb_decides (length t) 63)
+
+abbrev Sized : RequestModel → Type 0
+Sized w = ((0 < length w.keep) × (length w.keep ≤ 63)) × ((0 < length w.reach) × (length w.reach ≤ 63))
+
+pub held_as : (heap : Global) (ws : List RequestModel) → ((w : RequestModel) → In w ws → Sized w) → Held ws
+held_as heap ws h =
+    held heap ws ((each_member sized Sized (λ w. Decides-and (fits w.keep) (fits w.reach) (fits_decides w.keep) (fits_decides w.reach)) ws).1 h)
 
 -- ── what they keep to ──
 

@@ -1,14 +1,11 @@
 -- The rows of sheets.
-use Rattle.std.proofs.Common.{◌≡◌, ℕ, ◌<◌, Bool, true, false, not, ◌&&◌, ◌||◌, eqb, ltb, List, [], ◌∷◌, ◌++◌, codes, map, sym, refl, ap, ◌∙◌, subst, arith}
-use mathlib.Core.Bool.{and-eq-true_iff, false≢true}
-use mathlib.Core.List as List
+use Rattle.std.proofs.Common.{◌≡◌, ℕ, Bool, true, false, not, ◌&&◌, ◌||◌, ltb, List, [], ◌∷◌, ◌++◌, codes, map, sym, refl, ap, ◌∙◌, subst}
+use mathlib.Core.Bool.{false≢true}
 use Rattle.std.specs.Bool.{Decides}
-use Rattle.std.proofs.lemmas.Bool.Decides.{Decides-and, Decides-or, Decides-not, Decides-like, Decides-ltb}
+use Rattle.std.proofs.lemmas.Bool.Decides.{Decides-and, Decides-ltb}
 use Rattle.formula.specs.Grammar.{step, goes, verdict, Verdict, whole, stuck}
 use Rattle.formula.proofs.Language.{whole_verdict}
-use Rattle.port.specs.Limits.{key}
-use Rattle.port.specs.Model.{Model, first}
-use Rattle.port.specs.Valid.{Valid}
+use Rattle.port.specs.Model.{Model}
 use Rattle.faults.specs.declared.layers.PortFault.TheVariants.{Start}
 use Rattle.reading.specs.Reading.{Read, held, refused, same, and_then, provided, byte, bytes, number, field, minutes, text_length, whole_text, judged, text, rises, condition, move, request, admitted, head, body, entry, count, start_stage, opening, heading, add, finish, records, reading}
 use Rattle.reading.specs.SheetOf.{Bytes, joined, sheet_of}

@@ -1,5 +1,5 @@
 -- What the grammar computes: tests of marks and bytes, the steps of the reading by bytes, and where it ends.
-use Rattle.std.specs.Prelude.{ℕ, zero, suc, Bool, true, false, List, [], ◌∷◌, codes}
+use Rattle.std.specs.Prelude.{Bool, true, false, List, [], ◌∷◌, codes}
 use Rattle.formula.specs.Grammar.{flip, both, some, stands, ends, joins, Next, refuse, to, step, Verdict, whole, stuck, goes, opens, after, verdict}
 use Rattle.cases_words.specs.Rows.{Row, gives, Shown}
 
@@ -22,6 +22,8 @@ bits =
     yes_is (ends 2 48) ∷ yes_is (ends 2 49) ∷ yes_is (ends 2 97) ∷ yes_is (ends 2 98) ∷ no_is (ends 2 99) ∷
     no_is (ends 2 47) ∷ no_is (ends 2 50) ∷ no_is (ends 2 96) ∷ no_is (ends 2 65) ∷ no_is (ends 2 33) ∷ no_is (ends 2 40) ∷ no_is (ends 2 41) ∷
     yes_is (ends 16 112) ∷ no_is (ends 16 113) ∷ no_is (ends 0 97) ∷ yes_is (ends 0 49) ∷
+    -- with 28 letters, which no port has, the last one is the byte |
+    no_is (ends 27 124) ∷ yes_is (ends 28 124) ∷
     -- the bytes | and &
     yes_is (joins 124) ∷ yes_is (joins 38) ∷ no_is (joins 33) ∷ no_is (joins 41) ∷ no_is (joins 97) ∷
     []

@@ -5,6 +5,7 @@ pub mod Truths
 pub mod Limits
 pub mod Ports
 pub mod Requests
+pub mod Held
 pub mod Fields
 pub mod Records
 pub mod Sheets

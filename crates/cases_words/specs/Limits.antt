@@ -44,6 +44,8 @@ keys =
     gives (key (move 1 0 0 0)) 65536 256 ∷
     gives (key (move 0 1 0 0)) 256 1 ∷
     gives (key (move 255 31 255 65535)) 16719871 16719870 ∷
+    -- an operation of more than a byte runs into the condition: where moves rise, what they name has to exist too
+    gives (key (move 0 256 0 0)) (key (move 1 0 0 0)) 256 ∷
     []
 
 abbrev pub KeysShown : Type 0

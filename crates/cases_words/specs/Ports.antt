@@ -70,10 +70,10 @@ pub record PortRow : Type 0 where
   pub port : Model
   pub stands : Bool
 
-abbrev yes_is : Model → PortRow
+abbrev pub yes_is : Model → PortRow
 yes_is m = record { port = m; stands = true }
 
-abbrev no_is : Model → PortRow
+abbrev pub no_is : Model → PortRow
 no_is m = record { port = m; stands = false }
 
 abbrev pub ports : List PortRow

@@ -1,8 +1,7 @@
 -- Reading the records of a sheet: what each of the three kinds says, where it is at fault, and how a port grows by them.
-use Rattle.std.specs.Prelude.{ℕ, zero, suc, Bool, true, false, List, [], ◌∷◌, ◌++◌, codes}
+use Rattle.std.specs.Prelude.{ℕ, Bool, true, false, List, [], ◌∷◌, codes}
 use Rattle.faults.specs.declared.layers.RecordFault.TheVariants.{Kind, Map}
-use Rattle.faults.specs.declared.layers.PortFault.TheVariants.{Record, Count, Missing, Sequence, Many, Start}
-use Rattle.port.specs.declared.Header.{Header}
+use Rattle.faults.specs.declared.layers.PortFault.TheVariants.{Record, Missing, Sequence, Many}
 use Rattle.port.specs.declared.Move.{Move}
 use Rattle.port.specs.Limits.{In}
 use Rattle.port.specs.Model.{Model, RequestModel}

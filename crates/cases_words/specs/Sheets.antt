@@ -2,10 +2,10 @@
 use Rattle.std.specs.Prelude.{◌≡◌, ℕ, Bool, true, false, List, [], ◌∷◌, ◌++◌, take, codes}
 use Rattle.formula.specs.Grammar.{Verdict, whole, stuck}
 use Rattle.faults.specs.declared.layers.ByteFault.TheVariants.{Opening}
-use Rattle.faults.specs.declared.layers.RecordFault.TheVariants.{Byte, Kind, Map}
-use Rattle.faults.specs.declared.layers.PortFault.TheVariants.{Record, Count, Missing, Sequence, Many, Start}
+use Rattle.faults.specs.declared.layers.RecordFault.TheVariants.{Byte, Kind}
+use Rattle.faults.specs.declared.layers.PortFault.TheVariants.{Record, Sequence, Start}
 use Rattle.port.specs.Limits.{In}
-use Rattle.port.specs.Model.{Model, RequestModel, first}
+use Rattle.port.specs.Model.{Model, first}
 use Rattle.reading.specs.Reading.{Read, held, refused, finish, records, reading}
 use Rattle.reading.specs.SheetOf.{Bytes, number_bytes, minutes_bytes, text_bytes, bit_of, text_bit, condition_bytes, move_bytes, request_bytes, joined, records_of, header_of, sheet_of}
 use Rattle.reading.specs.Theorems.{Only, Judged}
@@ -13,7 +13,7 @@ use Rattle.cases_words.specs.Rows.{Said, Row, gives, Shown}
 use Rattle.cases_words.specs.Limits.{move}
 use Rattle.cases_words.specs.Ports.{header, request, port, heads, go, back, quay, moved}
 use Rattle.cases_words.specs.Ports as ports
-use Rattle.cases_words.specs.Fields.{ends, absent_at, no_formula}
+use Rattle.cases_words.specs.Fields.{ends}
 
 -- ── how a port is written ──
 

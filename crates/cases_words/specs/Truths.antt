@@ -1,5 +1,5 @@
 -- What the truth of a text is computed from, part by part.
-use Rattle.std.specs.Prelude.{ℕ, Bool, true, false, List, [], ◌∷◌, codes}
+use Rattle.std.specs.Prelude.{Bool, true, false, List, [], ◌∷◌, codes}
 use Rattle.formula.specs.Grammar.{atom, product, sum, whole, stuck, both, some}
 use Rattle.formula.specs.Truth.{Value, nothing, value, turned, joined, closed, followed, marked, read, held, truth, is_whole, is_formula}
 use Rattle.cases_words.specs.Rows.{Row, gives, Shown}

@@ -6,6 +6,7 @@ ghost use Rattle.cases_words.specs.Bits.{BitsShown, StepsShown, VerdictsShown};
 ghost use Rattle.cases_words.specs.Faults.{FaultLayersShown, FaultLinesShown, FaultNumbersShown, FaultPlacesShown};
 ghost use Rattle.cases_words.specs.Fields.{AmountsShown, ConstantsShown, FieldTextsShown, HeadingsShown, NumbersShown, TestsShown};
 ghost use Rattle.cases_words.specs.Formulas.{FaultyHold, PartsHold, PlacesHold, ReadPartsHold, RefusalsHold, WholesHold};
+ghost use Rattle.cases_words.specs.Held.{HeldHold, SameLimits};
 ghost use Rattle.cases_words.specs.Limits.{ExistingHold, KeysShown, MarkedHold, MembersHold, MovesAtShown, RisingHold, RisingMovesHold, TextsHold};
 ghost use Rattle.cases_words.specs.Ports.{LargeHold, PortsHold};
 ghost use Rattle.cases_words.specs.Records.{BeginsShown, ConditionsShown, EntriesShown, GrownShown, LengthsHold, MovesShown, RecordTestsShown, RequestsShown, SizedHold};
@@ -345,6 +346,20 @@ pub fn fault_layers_stand() -> bool
 // What errors are printed as.
 pub fn fault_lines_stand() -> bool
     ensures { FaultLinesShown }
+{
+    true
+}
+
+// Ports as they are held in memory, and ports that cannot be.
+pub fn held_stand() -> bool
+    ensures { HeldHold }
+{
+    true
+}
+
+// The limits of a port in memory are those of a valid one.
+pub fn limits_stand() -> bool
+    ensures { SameLimits }
 {
     true
 }

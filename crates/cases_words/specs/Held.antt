@@ -1,0 +1,36 @@
+-- Ports as they are held in memory.
+use Rattle.std.specs.Prelude.{◌≡◌, Bool, true, false, List, [], ◌∷◌, codes}
+use Rattle.std.specs.Global.{Global}
+use Rattle.port.specs.declared.held.Port.{Port}
+use Rattle.port.specs.Limits.{In}
+use Rattle.port.specs.Model.{Model, model_of, first}
+use Rattle.port.specs.Valid.{Valid}
+use Rattle.cases_words.specs.Limits.{move}
+use Rattle.cases_words.specs.Ports.{header, request, port, conditions, moves, heads, go, back, quay, moved, PortRow, yes_is, no_is}
+
+-- with any allocator there is such a port; or there is none
+abbrev pub Kept : Bool → Model → Type 0
+Kept true m = (heap : Global) → (p : Port) × (model_of p ≡ m)
+Kept false m = (p : Port) → model_of p ≡ m → ⊥
+
+abbrev pub held : List PortRow
+held =
+    yes_is first ∷ yes_is quay ∷ yes_is (moved []) ∷ yes_is (port heads conditions [] []) ∷
+    -- no marks, two start stages too many, no conditions, twice the same, an operation and a stage that there is not, no text
+    no_is (port (header 0 1 1 0 0) (0 ∷ []) [] []) ∷
+    no_is (port (header 2 2 2 3 2) conditions moves []) ∷
+    no_is (port heads [] [] []) ∷
+    no_is (port heads (0 ∷ 1 ∷ 1 ∷ []) [] []) ∷
+    no_is (moved (move 0 2 0 0 ∷ [])) ∷
+    no_is (port heads conditions moves (go ∷ request 2 0 (codes "1") (codes "a") ∷ [])) ∷
+    no_is (port heads conditions moves (back ∷ request 0 1 (codes "1") [] ∷ [])) ∷
+    no_is (port heads conditions moves (request 0 1 (codes "a|") (codes "1") ∷ [])) ∷
+    []
+
+abbrev pub HeldHold : Type 0
+HeldHold = (r : PortRow) → In r held → Kept r.stands r.port
+
+-- and of all ports: what each holds is valid, and each valid port can be held
+pub record SameLimits : Type 0 where
+  pub valid : (p : Port) → Valid (model_of p)
+  pub held : (heap : Global) (m : Model) → Valid m → (p : Port) × (model_of p ≡ m)
