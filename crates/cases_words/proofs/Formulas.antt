@@ -6,9 +6,10 @@ use Rattle.std.specs.Bool.{Decides}
 use Rattle.std.proofs.lemmas.Bool.Decides.{Decides-and, Decides-not, Decides-like}
 use Rattle.formula.specs.Grammar.{Part, atom, product, sum, Stands, Whole, Verdict, whole, stuck, goes, step, verdict, opens, AtomRead, ProductRead, SumRead, Refused, NoFormula}
 use Rattle.formula.proofs.Language.{went}
+use Rattle.formula.proofs.Truths as truths
 use Rattle.reading.proofs.Words.{grammatical}
 use Rattle.reading.specs.Theorems.{Judged}
-use Rattle.cases_words.specs.Formulas.{PartRow, parts, PartsHold, PlaceRow, places, PlacesHold, WholeRow, wholes, WholesHold, ReadAs, read_parts, ReadPartsHold, RefusedRow, refusals, RefusalsHold, FaultyRow, faulty, FaultyHold}
+use Rattle.cases_words.specs.Formulas.{PartRow, parts, PartsHold, PlaceRow, places, PlacesHold, WholeRow, wholes, WholesHold, ReadAs, read_parts, ReadPartsHold, RefusedRow, refusals, RefusalsHold, FaultyRow, faulty, FaultyHold, Unambiguous}
 use Rattle.cases_words.specs.Rows.{Said}
 use Rattle.cases_words.proofs.Rows.{all_said, apart, each_in}
 use Rattle.cases_words.proofs.Bits.{verdict_code}
@@ -154,3 +155,6 @@ unfolding verdict goes step
 faulty_hold =
     all_said _ (λ (r : FaultyRow). is_stuck (verdict r.marks r.text) r.place) (λ (r : FaultyRow). r.stands)
     (λ r. faulty_by r.marks r.text r.place (verdict r.marks r.text) (grammatical r.marks r.text)) faulty refl
+
+pub unambiguous : Unambiguous
+unambiguous = record { one_value = truths.one_value; one_place = one_place }

@@ -1,5 +1,5 @@
 -- Texts and their parts: which are formulas, with which value, and where a text stops being one.
-use Rattle.std.specs.Prelude.{ℕ, Bool, true, false, List, [], ◌∷◌, codes}
+use Rattle.std.specs.Prelude.{◌≡◌, ℕ, Bool, true, false, List, [], ◌∷◌, codes}
 use Rattle.formula.specs.Grammar.{Part, atom, product, sum, Formula, Stands, Whole, AtomRead, ProductRead, SumRead, Refused, NoFormula}
 use Rattle.port.specs.Limits.{In}
 use Rattle.cases_words.specs.Rows.{Said}
@@ -175,3 +175,8 @@ faulty =
 
 abbrev pub FaultyHold : Type 0
 FaultyHold = (r : FaultyRow) → In r faulty → Said r.stands (NoFormula r.marks r.text r.place)
+
+-- and of all texts: there is at most one value on a set of marks, and at most one place where no formula goes on
+pub record Unambiguous : Type 0 where
+  pub one_value : (n m : ℕ) (t : List ℕ) (v w : Bool) → Whole n m t v → Whole n m t w → v ≡ w
+  pub one_place : (n : ℕ) (t : List ℕ) (p q : ℕ) → NoFormula n t p → NoFormula n t q → p ≡ q

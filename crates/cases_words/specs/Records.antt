@@ -143,6 +143,7 @@ entries =
 abbrev pub grown : List (Row Model)
 grown =
     gives (empty heads) (port heads [] [] []) (port heads (0 ∷ []) [] []) ∷
+    gives (empty (header 1 1 1 0 0)) (port (header 1 1 1 0 0) [] [] []) (port heads [] [] []) ∷
     gives (add two (condition_entry 3)) (port heads (0 ∷ 1 ∷ 3 ∷ []) [] []) (port heads (3 ∷ 0 ∷ 1 ∷ []) [] []) ∷
     gives (add three (move_entry (move 1 0 0 0))) (port heads (0 ∷ 1 ∷ 3 ∷ []) (move 0 1 1 7 ∷ move 1 0 0 0 ∷ []) []) (port heads (0 ∷ 1 ∷ 3 ∷ []) (move 1 0 0 0 ∷ []) []) ∷
     gives (add late (request_entry (request 1 0 (codes "a") (codes "b")))) (port heads (0 ∷ 1 ∷ 3 ∷ []) [] (go ∷ request 1 0 (codes "a") (codes "b") ∷ [])) late ∷

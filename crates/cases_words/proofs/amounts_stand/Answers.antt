@@ -1,5 +1,0 @@
-use Rattle.cases_words.proofs.Fields.{amounts_shown}
-use Rattle.cases_words.proofs.amounts_stand.Goals as goal
-
-pub returns : goal.returns
-returns c = amounts_shown

@@ -1,5 +1,0 @@
-use Rattle.cases_words.proofs.Records.{begins_shown}
-use Rattle.cases_words.proofs.begins_stand.Goals as goal
-
-pub returns : goal.returns
-returns c = begins_shown

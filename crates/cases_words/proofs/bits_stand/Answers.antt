@@ -1,5 +1,0 @@
-use Rattle.cases_words.proofs.Bits.{bits_shown}
-use Rattle.cases_words.proofs.bits_stand.Goals as goal
-
-pub returns : goal.returns
-returns c = bits_shown

@@ -1,5 +1,0 @@
-use Rattle.cases_words.proofs.Sheets.{bytes_hold}
-use Rattle.cases_words.proofs.bytes_stand.Goals as goal
-
-pub returns : goal.returns
-returns c = bytes_hold

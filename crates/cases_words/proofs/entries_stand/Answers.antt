@@ -1,5 +1,0 @@
-use Rattle.cases_words.proofs.Records.{entries_shown}
-use Rattle.cases_words.proofs.entries_stand.Goals as goal
-
-pub returns : goal.returns
-returns c = entries_shown

@@ -1,5 +1,0 @@
-use Rattle.cases_words.proofs.Formulas.{faulty_hold}
-use Rattle.cases_words.proofs.faulty_stand.Goals as goal
-
-pub returns : goal.returns
-returns c = faulty_hold

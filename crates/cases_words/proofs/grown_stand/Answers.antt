@@ -1,5 +1,0 @@
-use Rattle.cases_words.proofs.Records.{grown_shown}
-use Rattle.cases_words.proofs.grown_stand.Goals as goal
-
-pub returns : goal.returns
-returns c = grown_shown

@@ -1,5 +1,0 @@
-use Rattle.cases_words.proofs.Held.{held_hold}
-use Rattle.cases_words.proofs.held_stand.Goals as goal
-
-pub returns : goal.returns
-returns c = held_hold

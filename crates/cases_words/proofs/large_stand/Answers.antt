@@ -1,5 +1,0 @@
-use Rattle.cases_words.proofs.Ports.{large_hold}
-use Rattle.cases_words.proofs.large_stand.Goals as goal
-
-pub returns : goal.returns
-returns c = large_hold

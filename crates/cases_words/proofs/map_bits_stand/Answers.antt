@@ -1,5 +1,0 @@
-use Rattle.cases_words.proofs.Sheets.{map_bits_shown}
-use Rattle.cases_words.proofs.map_bits_stand.Goals as goal
-
-pub returns : goal.returns
-returns c = map_bits_shown

@@ -1,5 +1,0 @@
-use Rattle.cases_words.proofs.Limits.{members_hold}
-use Rattle.cases_words.proofs.members_stand.Goals as goal
-
-pub returns : goal.returns
-returns c = members_hold

@@ -1,5 +1,0 @@
-use Rattle.cases_words.proofs.Limits.{moves_at_shown}
-use Rattle.cases_words.proofs.moves_at_stand.Goals as goal
-
-pub returns : goal.returns
-returns c = moves_at_shown

@@ -1,5 +1,0 @@
-use Rattle.cases_words.proofs.Formulas.{parts_hold}
-use Rattle.cases_words.proofs.parts_stand.Goals as goal
-
-pub returns : goal.returns
-returns c = parts_hold

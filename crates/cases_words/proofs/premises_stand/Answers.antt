@@ -1,5 +1,0 @@
-use Rattle.cases_words.proofs.Sheets.{needed}
-use Rattle.cases_words.proofs.premises_stand.Goals as goal
-
-pub returns : goal.returns
-returns c = needed

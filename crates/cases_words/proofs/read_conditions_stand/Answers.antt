@@ -1,5 +1,0 @@
-use Rattle.cases_words.proofs.Records.{conditions_shown}
-use Rattle.cases_words.proofs.read_conditions_stand.Goals as goal
-
-pub returns : goal.returns
-returns c = conditions_shown

@@ -1,5 +1,0 @@
-use Rattle.cases_words.proofs.Sheets.{reads_shown}
-use Rattle.cases_words.proofs.reads_stand.Goals as goal
-
-pub returns : goal.returns
-returns c = reads_shown

@@ -1,5 +1,0 @@
-use Rattle.cases_words.proofs.Records.{tests_shown}
-use Rattle.cases_words.proofs.record_tests_stand.Goals as goal
-
-pub returns : goal.returns
-returns c = tests_shown

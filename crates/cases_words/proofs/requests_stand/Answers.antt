@@ -1,5 +1,0 @@
-use Rattle.cases_words.proofs.Requests.{requests_hold}
-use Rattle.cases_words.proofs.requests_stand.Goals as goal
-
-pub returns : goal.returns
-returns c = requests_hold

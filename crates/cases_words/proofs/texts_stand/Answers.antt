@@ -1,5 +1,0 @@
-use Rattle.cases_words.proofs.Limits.{texts_hold}
-use Rattle.cases_words.proofs.texts_stand.Goals as goal
-
-pub returns : goal.returns
-returns c = texts_hold

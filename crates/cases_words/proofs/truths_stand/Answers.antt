@@ -1,5 +1,0 @@
-use Rattle.cases_words.proofs.Truths.{truths_shown}
-use Rattle.cases_words.proofs.truths_stand.Goals as goal
-
-pub returns : goal.returns
-returns c = truths_shown

@@ -1,5 +1,0 @@
-use Rattle.cases_words.proofs.Bits.{verdicts_shown}
-use Rattle.cases_words.proofs.verdicts_stand.Goals as goal
-
-pub returns : goal.returns
-returns c = verdicts_shown

@@ -1,5 +1,0 @@
-use Rattle.cases_words.proofs.Formulas.{wholes_hold}
-use Rattle.cases_words.proofs.wholes_stand.Goals as goal
-
-pub returns : goal.returns
-returns c = wholes_hold

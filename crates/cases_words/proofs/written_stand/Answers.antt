@@ -1,5 +1,0 @@
-use Rattle.cases_words.proofs.Sheets.{written_shown}
-use Rattle.cases_words.proofs.written_stand.Goals as goal
-
-pub returns : goal.returns
-returns c = written_shown
