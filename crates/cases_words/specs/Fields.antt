@@ -92,6 +92,7 @@ texts =
     gives (whole_text 10 (1 ∷ 48 ∷ [])) (got (codes "0") 12 []) (fault (absent_at 10)) ∷
     gives (whole_text 10 (1 ∷ 49 ∷ [])) (fault (absent_at 10)) (got (codes "1") 12 []) ∷
     gives (whole_text 10 (2 ∷ 97 ∷ [])) (fault (ends 12)) (got (codes "a") 12 []) ∷
+    gives (whole_text 10 (1 ∷ [])) (fault (ends 11)) (fault (absent_at 10)) ∷
     gives (whole_text 10 (64 ∷ [])) (fault (Missing 10)) (fault (ends 11)) ∷
     -- what the grammar says of it, counted from where its bytes begin
     gives (judged 11 whole (got (codes "a") 12 [])) (got (codes "a") 12 []) (fault (no_formula 11)) ∷
@@ -107,6 +108,7 @@ texts =
     gives (opening 0 (codes "GATE!")) (got (codes "GATE") 4 (codes "!")) (got (codes "GATE") 4 []) ∷
     gives (opening 0 (codes "gATE")) (fault (Record (Byte Opening))) (got (codes "gATE") 4 []) ∷
     gives (opening 0 (codes "GAT")) (fault (ends 3)) (fault (Record (Byte Opening))) ∷
+    gives (opening 0 (codes "sh")) (fault (ends 2)) (fault (Record (Byte Opening))) ∷
     gives (opening 0 (codes "ship")) (fault (Record (Byte Opening))) (fault (ends 4)) ∷
     []
 

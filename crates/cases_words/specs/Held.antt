@@ -21,8 +21,8 @@ held =
     no_is (port (header 2 2 2 3 2) conditions moves []) ∷
     no_is (port heads [] [] []) ∷
     no_is (port heads (0 ∷ 1 ∷ 1 ∷ []) [] []) ∷
-    no_is (moved (move 0 2 0 0 ∷ [])) ∷
-    no_is (port heads conditions moves (go ∷ request 2 0 (codes "1") (codes "a") ∷ [])) ∷
+    no_is (moved (move 0 4 0 0 ∷ [])) ∷
+    no_is (port heads conditions moves (go ∷ request 5 0 (codes "1") (codes "a") ∷ [])) ∷
     no_is (port heads conditions moves (back ∷ request 0 1 (codes "1") [] ∷ [])) ∷
     no_is (port heads conditions moves (request 0 1 (codes "a|") (codes "1") ∷ [])) ∷
     []

@@ -30,9 +30,9 @@ abbrev pub repeated : ℕ → RequestModel → List RequestModel
 repeated zero q = []
 repeated (suc n) q = q ∷ repeated n q
 
--- a small port: three conditions of two marks, four moves and two requests
+-- a small port: three conditions of two marks, four operations, five stages, four moves and two requests
 abbrev pub heads : Header
-heads = header 2 2 2 1 2
+heads = header 2 4 5 1 2
 
 abbrev pub conditions : List ℕ
 conditions = 0 ∷ 1 ∷ 3 ∷ []
@@ -95,14 +95,14 @@ ports =
     no_is (port (header 1 2 2 1 2) conditions moves []) ∷ no_is (conditioned heads (0 ∷ 1 ∷ 4 ∷ [])) ∷
     no_is (conditioned heads (0 ∷ 1 ∷ 1 ∷ [])) ∷ no_is (conditioned heads (1 ∷ 0 ∷ 3 ∷ [])) ∷
     -- moves between conditions that there are, by operations that there are, which rise
-    yes_is (moved []) ∷ no_is (moved (move 3 0 0 0 ∷ [])) ∷ no_is (moved (move 0 2 0 0 ∷ [])) ∷ no_is (moved (move 0 0 3 0 ∷ [])) ∷
+    yes_is (moved []) ∷ no_is (moved (move 3 0 0 0 ∷ [])) ∷ yes_is (moved (move 0 3 2 0 ∷ [])) ∷ no_is (moved (move 0 4 0 0 ∷ [])) ∷ no_is (moved (move 0 0 3 0 ∷ [])) ∷
     no_is (moved (move 0 0 1 4 ∷ move 0 0 1 5 ∷ [])) ∷ no_is (moved (move 1 0 0 0 ∷ move 0 1 2 0 ∷ [])) ∷
     -- the minutes of a move are bounded by their type, and not here
     yes_is (moved (move 0 0 1 65536 ∷ [])) ∷
     -- at most 32 requests, of stages that there are
     yes_is (asked []) ∷ yes_is (asked (repeated 32 go)) ∷ no_is (asked (repeated 33 go)) ∷
-    yes_is (asked (request 1 1 (codes "1") (codes "1") ∷ [])) ∷
-    no_is (asked (go ∷ request 2 0 (codes "1") (codes "a") ∷ [])) ∷ no_is (asked (go ∷ request 0 2 (codes "1") (codes "a") ∷ [])) ∷
+    yes_is (asked (request 4 4 (codes "1") (codes "1") ∷ [])) ∷
+    no_is (asked (go ∷ request 5 0 (codes "1") (codes "a") ∷ [])) ∷ no_is (asked (go ∷ request 0 5 (codes "1") (codes "a") ∷ [])) ∷
     -- whose texts are formulas of 1 to 63 bytes
     yes_is (asked (request 0 1 (denied 31 (codes "a")) (denied 31 (codes "b")) ∷ [])) ∷
     no_is (asked (request 0 1 (33 ∷ denied 31 (codes "a")) (codes "a") ∷ [])) ∷ no_is (asked (request 0 1 (codes "1") (33 ∷ denied 31 (codes "a")) ∷ [])) ∷

@@ -31,7 +31,7 @@ quay_records =
     []
 
 abbrev quay_header : List ℕ
-quay_header = 71 ∷ 65 ∷ 84 ∷ 69 ∷ 2 ∷ 2 ∷ 2 ∷ 1 ∷ 2 ∷ []
+quay_header = 71 ∷ 65 ∷ 84 ∷ 69 ∷ 2 ∷ 4 ∷ 5 ∷ 1 ∷ 2 ∷ []
 
 abbrev pub quay_sheet : List ℕ
 quay_sheet = quay_header ++ quay_records
@@ -41,7 +41,7 @@ written =
     -- what is absent takes no byte
     gives (number_bytes 0) [] (0 ∷ []) ∷ gives (number_bytes 7) (7 ∷ []) [] ∷
     gives (minutes_bytes 0) [] (0 ∷ 0 ∷ []) ∷ gives (minutes_bytes 1) (0 ∷ 1 ∷ []) (1 ∷ []) ∷
-    gives (minutes_bytes 258) (1 ∷ 2 ∷ []) (2 ∷ 1 ∷ []) ∷ gives (minutes_bytes 65535) (255 ∷ 255 ∷ []) (0 ∷ 255 ∷ []) ∷
+    gives (minutes_bytes 256) (1 ∷ 0 ∷ []) (0 ∷ 0 ∷ []) ∷ gives (minutes_bytes 258) (1 ∷ 2 ∷ []) (2 ∷ 1 ∷ []) ∷ gives (minutes_bytes 65535) (255 ∷ 255 ∷ []) (0 ∷ 255 ∷ []) ∷
     gives (text_bytes (codes "1")) [] (1 ∷ 49 ∷ []) ∷ gives (text_bytes (codes "!a")) (2 ∷ 33 ∷ 97 ∷ []) (33 ∷ 97 ∷ []) ∷ gives (text_bytes (codes "11")) (2 ∷ 49 ∷ 49 ∷ []) [] ∷
     -- a condition by its low and its high byte
     gives (condition_bytes 0) (1 ∷ 0 ∷ []) (1 ∷ 1 ∷ 0 ∷ []) ∷ gives (condition_bytes 3) (1 ∷ 1 ∷ 3 ∷ []) (1 ∷ 3 ∷ []) ∷
@@ -54,7 +54,7 @@ written =
     gives (joined number_bytes (4 ∷ 0 ∷ 5 ∷ [])) (4 ∷ 5 ∷ []) (4 ∷ 0 ∷ 5 ∷ []) ∷ gives (joined condition_bytes []) [] (1 ∷ 0 ∷ []) ∷
     gives (joined condition_bytes (0 ∷ 1 ∷ [])) (1 ∷ 0 ∷ 1 ∷ 1 ∷ 1 ∷ []) (1 ∷ 1 ∷ 1 ∷ 1 ∷ 0 ∷ []) ∷
     -- the whole: header, conditions, moves, requests
-    gives (header_of heads) quay_header (71 ∷ 65 ∷ 84 ∷ 69 ∷ 2 ∷ 2 ∷ 2 ∷ 2 ∷ 1 ∷ []) ∷
+    gives (header_of heads) quay_header (71 ∷ 65 ∷ 84 ∷ 69 ∷ 2 ∷ 4 ∷ 5 ∷ 2 ∷ 1 ∷ []) ∷
     gives (header_of (header 1 2 3 4 5)) (codes "GATE" ++ (1 ∷ 2 ∷ 3 ∷ 4 ∷ 5 ∷ [])) (1 ∷ 2 ∷ 3 ∷ 4 ∷ 5 ∷ []) ∷
     gives (records_of quay) quay_records quay_sheet ∷ gives (records_of (port heads [] [] [])) [] quay_header ∷
     gives (records_of (port heads (0 ∷ []) (move 0 0 0 0 ∷ []) (request 0 0 (codes "1") (codes "1") ∷ []))) (1 ∷ 0 ∷ 2 ∷ 0 ∷ 3 ∷ 0 ∷ []) (3 ∷ 0 ∷ 2 ∷ 0 ∷ 1 ∷ 0 ∷ []) ∷

@@ -11,6 +11,7 @@ values =
     gives (joined both true (value false (codes ")"))) (value false (codes ")")) (value true (codes ")")) ∷
     gives (joined some true (value false (codes ")"))) (value true (codes ")")) (value false (codes ")")) ∷
     gives (joined some true nothing) nothing (value true []) ∷
+    gives (joined (λ v w. v) true (value false [])) (value true []) (value false []) ∷
     -- a closing bracket is taken away, and has to be there
     gives (closed (value true (codes ")|b"))) (value true (codes "|b")) (value true (codes ")|b")) ∷
     gives (closed (value true (codes "|b)"))) nothing (value true (codes "|b)")) ∷
@@ -31,6 +32,8 @@ values =
     gives (read 9 atom 2 1 (codes "a&b|1")) (value true (codes "&b|1")) (value true []) ∷
     gives (read 9 product 2 1 (codes "a&b|1")) (value false (codes "|1")) (value true (codes "&b|1")) ∷
     gives (read 9 sum 2 1 (codes "a&b|1")) (value true []) (value false (codes "|1")) ∷
+    gives (read 9 atom 2 1 (codes "0|1")) (value false (codes "|1")) (value true (codes "|1")) ∷
+    gives (read 9 atom 2 1 (codes "2")) nothing (value false []) ∷
     gives (read 9 atom 2 1 (codes "!(a|b)")) (value false []) (value true []) ∷
     gives (read 9 atom 2 1 (codes "(a|b")) nothing (value true []) ∷
     gives (read 9 sum 2 1 (codes "|b")) nothing (value false (codes "|b")) ∷
@@ -52,7 +55,7 @@ truths =
     yes_is (truth 2 1 (codes "a&!b")) ∷ no_is (truth 2 3 (codes "a&!b")) ∷
     yes_is (truth 2 2 (codes "a|b")) ∷ no_is (truth 2 0 (codes "a|b")) ∷
     yes_is (truth 3 1 (codes "a|b&c")) ∷ no_is (truth 3 1 (codes "(a|b)&c")) ∷
-    yes_is (truth 1 0 (codes "!(!(1))")) ∷ yes_is (truth 16 32768 (codes "p")) ∷ no_is (truth 16 32767 (codes "p")) ∷
+    no_is (truth 1 1 (codes "0")) ∷ yes_is (truth 1 0 (codes "!(!(1))")) ∷ yes_is (truth 16 32768 (codes "p")) ∷ no_is (truth 16 32767 (codes "p")) ∷
     -- a text that is no formula is not true, but it may seem so where it begins with one
     no_is (truth 2 1 (codes "a&")) ∷ no_is (truth 1 2 (codes "b")) ∷ yes_is (truth 2 1 (codes "a)")) ∷
     yes_is (is_whole whole) ∷ no_is (is_whole (stuck 0)) ∷ no_is (is_whole (stuck 7)) ∷
