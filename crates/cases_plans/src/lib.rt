@@ -1,0 +1,12 @@
+// Examples of the definitions of plans, costs and locks: claims that stand and claims that are refuted. Each function stands for the
+// rows of one list, by its contract.
+#![tactic(auto)]
+
+ghost use Rattle.cases_plans.specs.Plans.{PlansSay};
+
+// Moves, plans, runs, and what a plan attains.
+pub fn plans_stand() -> bool
+    ensures { PlansSay }
+{
+    true
+}
