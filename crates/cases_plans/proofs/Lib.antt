@@ -1,3 +1,5 @@
 pub mod Rows
 pub mod Tests
 pub mod Plans
+pub mod Kept
+pub mod Simulations

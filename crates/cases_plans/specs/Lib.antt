@@ -1,3 +1,4 @@
 pub mod Rows
 pub mod Basin
 pub mod Plans
+pub mod Simulations

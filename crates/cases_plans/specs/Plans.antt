@@ -3,7 +3,7 @@ use Rattle.std.specs.Prelude.{◌≡◌, ℕ, Bool, true, false, not, List, [], 
 use Rattle.port.specs.declared.Move.{Move}
 use Rattle.plans.specs.Plans.{Plan, stop, work, Within, Can, Possible, IsRun, end, Works, Attains}
 use Rattle.cases_plans.specs.Rows.{Row, holds, fails, AllSay}
-use Rattle.cases_plans.specs.Basin.{move, lift, jam, haul, lower, stay, moves, lifting, hauling, up_and_down, try_and_lower, lift_and_lower}
+use Rattle.cases_plans.specs.Basin.{move, lift, jam, haul, lower, stay, moves, lifting, hauling, up_and_down, try_and_lower, lift_and_lower, any, none, is, isnt}
 
 pub data Claim : Type 0 where
   -- moves lead from conditions below a number to such
@@ -26,19 +26,6 @@ Means (run plan c ms) = IsRun moves plan c ms
 Means (ends c ms d) = end c ms ≡ d
 Means (works plan c) = Works moves plan c
 Means (attains keep goal plan c) = Attains moves keep goal plan c
-
--- tests on a condition
-abbrev any : ℕ → Bool
-any c = true
-
-abbrev none : ℕ → Bool
-none c = false
-
-abbrev is : ℕ → ℕ → Bool
-is d c = c == d
-
-abbrev isnt : ℕ → ℕ → Bool
-isnt d c = not (c == d)
 
 abbrev pub rows : List (Row Claim)
 rows =
