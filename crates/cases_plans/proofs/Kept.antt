@@ -3,10 +3,12 @@ use Rattle.std.proofs.Common.{◌≡◌, ℕ, zero, suc, ◌*◌, ◌<◌, Bool,
 use mathlib.Core.Bool.{and-eq-true_iff, false≢true}
 use Rattle.port.specs.Limits.{In}
 use Rattle.port.specs.declared.Move.{Move}
+use Rattle.plans.specs.Flags.{every}
 use Rattle.plans.specs.Plans.{Plan, stop, work, Can, IsRun, end}
 use Rattle.plans.specs.Reach.{each, some, serves, left}
 use Rattle.plans.specs.Simulation.{Task, Domain, WellFormed, EndsIn, Serves, InRange, Holds, Simulation, Kept, ServesRow, Rank}
 use Rattle.plans.proofs.Decide.{some_in, in_some, each_in, in_each, serves_decided, left_iterates, row_kept}
+use Rattle.plans.proofs.Flags.{every_at, at_every}
 use Rattle.plans.proofs.Index.{is_false}
 use Rattle.plans.proofs.Ranks.{kept_rank, left_serves}
 use Rattle.plans.proofs.Serve.{kept_row, kept_ranged}
@@ -20,6 +22,16 @@ range_test D s c = ltb s D.stages && ltb c D.conditions
 
 pub range_decided : (D : Domain) (s c : ℕ) → (range_test D s c ≡ true) ↔ InRange D s c
 range_decided D s c = both (ltb s D.stages) (ltb c D.conditions) (below s D.stages) (below c D.conditions)
+
+-- a test for each pair of the domain
+abbrev pub pairwise : Domain → (ℕ → ℕ → Bool) → Bool
+pairwise D test = every (λ s. every (λ c. test s c) D.conditions) D.stages
+
+pub pairwise_iff : (D : Domain) (test : ℕ → ℕ → Bool) → (pairwise D test ≡ true) ↔ ((s c : ℕ) → InRange D s c → test s c ≡ true)
+pairwise_iff D test = (
+  λ e s c r. every_at (λ c. test s c) D.conditions (every_at (λ s. every (λ c. test s c) D.conditions) D.stages e s r.0) c r.1,
+  λ h. at_every (λ s. every (λ c. test s c) D.conditions) D.stages (λ s l. at_every (λ c. test s c) D.conditions (λ c m. h s c (l, m))),
+)
 
 abbrev staged : Domain → Task → Bool
 staged D q = ltb q.from D.stages && ltb q.to D.stages

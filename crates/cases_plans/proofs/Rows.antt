@@ -1,5 +1,5 @@
 -- From one test that is computed over all rows to what each of them says.
-use Rattle.std.proofs.Common.{◌≡◌, Bool, true, false, cond, not, ◌&&◌, ◌↔◌, List, sym, refl, ◌∙◌}
+use Rattle.std.proofs.Common.{◌≡◌, Bool, true, false, cond, not, ◌&&◌, ◌↔◌, List, [], ◌∷◌, sym, refl, ◌∙◌, subst, inl, inr}
 use mathlib.Core.Bool.{and-eq-true_iff, false≢true}
 use Rattle.port.specs.Limits.{In}
 use Rattle.plans.specs.Reach.{each}
@@ -27,3 +27,13 @@ pub all_say : {A : Type 0} (Means : A → Type 0) (decides test : A → Bool) �
 all_say Means decides test decided rows e r i =
     let h = (and-eq-true_iff (decides r.claim) (alike (test r.claim) r.stands)).0 (each_in (right decides test) rows e r i) in
     says (Means r.claim) (test r.claim) r.stands (decided r.claim h.0) h.1
+
+-- the rows one by one, where no test decides them
+abbrev pub Each : {A : Type 0} → (A → Type 0) → List (Row A) → Type 0
+Each Means [] = Unit {0}
+Each Means (x ∷ xs) = Says x.stands (Means x.claim) × Each Means xs
+
+pub each_says : {A : Type 0} (Means : A → Type 0) (rows : List (Row A)) → Each Means rows → AllSay Means rows
+each_says Means [] h r i = absurd i
+each_says {A} Means (x ∷ xs) h r (inl q) = subst (λ (y : Row A). Says y.stands (Means y.claim)) (sym q) h.0
+each_says Means (x ∷ xs) h r (inr i) = each_says Means xs h.1 r i

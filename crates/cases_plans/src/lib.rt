@@ -2,7 +2,9 @@
 // rows of one list, by its contract.
 #![tactic(auto)]
 
+ghost use Rattle.cases_plans.specs.Domains.{DomainsSay};
 ghost use Rattle.cases_plans.specs.Plans.{PlansSay};
+ghost use Rattle.cases_plans.specs.Sets.{ComputedSay, IterationsSay, SetsSay};
 ghost use Rattle.cases_plans.specs.Simulations.{SimulationsSay};
 
 // Moves, plans, runs, and what a plan attains.
@@ -15,6 +17,34 @@ pub fn plans_stand() -> bool
 // Domains, what a pair serves, simulations, what is kept, and ranks.
 pub fn simulations_stand() -> bool
     ensures { SimulationsSay }
+{
+    true
+}
+
+// The domain that a port tells.
+pub fn domains_stand() -> bool
+    ensures { DomainsSay }
+{
+    true
+}
+
+// What is attainable, closed and stable.
+pub fn sets_stand() -> bool
+    ensures { SetsSay }
+{
+    true
+}
+
+// The sets as they are computed.
+pub fn computed_stand() -> bool
+    ensures { ComputedSay }
+{
+    true
+}
+
+// Which sets iterate.
+pub fn iterations_stand() -> bool
+    ensures { IterationsSay }
 {
     true
 }
