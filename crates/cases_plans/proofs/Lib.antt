@@ -6,3 +6,4 @@ pub mod Kept
 pub mod Simulations
 pub mod Domains
 pub mod Sets
+pub mod Flags

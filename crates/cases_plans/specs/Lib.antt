@@ -5,3 +5,4 @@ pub mod Plans
 pub mod Simulations
 pub mod Domains
 pub mod Sets
+pub mod Flags

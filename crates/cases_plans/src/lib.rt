@@ -3,6 +3,7 @@
 #![tactic(auto)]
 
 ghost use Rattle.cases_plans.specs.Domains.{DomainsSay};
+ghost use Rattle.cases_plans.specs.Flags.{DropsSay, FlagsSay, ReadingsSay};
 ghost use Rattle.cases_plans.specs.Plans.{PlansSay};
 ghost use Rattle.cases_plans.specs.Sets.{ComputedSay, IterationsSay, SetsSay};
 ghost use Rattle.cases_plans.specs.Simulations.{SimulationsSay};
@@ -45,6 +46,27 @@ pub fn computed_stand() -> bool
 // Which sets iterate.
 pub fn iterations_stand() -> bool
     ensures { IterationsSay }
+{
+    true
+}
+
+// What is read from lists of flags and numbers.
+pub fn readings_stand() -> bool
+    ensures { ReadingsSay }
+{
+    true
+}
+
+// Flags that are dropped.
+pub fn drops_stand() -> bool
+    ensures { DropsSay }
+{
+    true
+}
+
+// Flags and ranks after some steps, and at the end.
+pub fn flags_stand() -> bool
+    ensures { FlagsSay }
 {
     true
 }
