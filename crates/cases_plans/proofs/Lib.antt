@@ -7,3 +7,5 @@ pub mod Simulations
 pub mod Domains
 pub mod Sets
 pub mod Flags
+pub mod Costs
+pub mod Models

@@ -6,3 +6,6 @@ pub mod Simulations
 pub mod Domains
 pub mod Sets
 pub mod Flags
+pub mod Costs
+pub mod Models
+pub mod Compare

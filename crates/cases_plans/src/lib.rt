@@ -2,8 +2,11 @@
 // rows of one list, by its contract.
 #![tactic(auto)]
 
+ghost use Rattle.cases_plans.specs.Compare.{CompareSay};
+ghost use Rattle.cases_plans.specs.Costs.{CostsSay, LawfulSay, PricesSay, RunsSay, WeakSay};
 ghost use Rattle.cases_plans.specs.Domains.{DomainsSay};
 ghost use Rattle.cases_plans.specs.Flags.{DropsSay, FlagsSay, ReadingsSay};
+ghost use Rattle.cases_plans.specs.Models.{ModelsSay, OrdersSay};
 ghost use Rattle.cases_plans.specs.Plans.{PlansSay};
 ghost use Rattle.cases_plans.specs.Sets.{ComputedSay, IterationsSay, SetsSay};
 ghost use Rattle.cases_plans.specs.Simulations.{SimulationsSay};
@@ -67,6 +70,62 @@ pub fn drops_stand() -> bool
 // Flags and ranks after some steps, and at the end.
 pub fn flags_stand() -> bool
     ensures { FlagsSay }
+{
+    true
+}
+
+// Cost models that are lawful, and for each law one that breaks it.
+pub fn lawful_stand() -> bool
+    ensures { LawfulSay }
+{
+    true
+}
+
+// The same for the weak laws.
+pub fn weak_stand() -> bool
+    ensures { WeakSay }
+{
+    true
+}
+
+// Costs, their order, and moves of few minutes.
+pub fn costs_stand() -> bool
+    ensures { CostsSay }
+{
+    true
+}
+
+// What runs cost.
+pub fn runs_stand() -> bool
+    ensures { RunsSay }
+{
+    true
+}
+
+// What some run of few moves costs.
+pub fn prices_stand() -> bool
+    ensures { PricesSay }
+{
+    true
+}
+
+// The two models.
+pub fn models_stand() -> bool
+    ensures { ModelsSay }
+{
+    true
+}
+
+// The order of two columns.
+pub fn orders_stand() -> bool
+    ensures { OrdersSay }
+{
+    true
+}
+
+// Costs compared.
+pub fn compare_stand() -> bool
+    ensures { CompareSay }
 {
     true
 }

@@ -1,0 +1,165 @@
+-- Examples of cost models with their laws, and of what runs cost.
+use Rattle.std.specs.Prelude.{ℕ, ◌+◌, ◌-◌, ◌*◌, Bool, cond, List, [], ◌∷◌, ◌==◌, nat_le, slice_index}
+use Rattle.port.specs.declared.Move.{Move}
+use Rattle.costs.specs.Costs.{Model, Sized, Le, Laws, WeakLaws, cost, Small, Reached}
+use Rattle.costs.specs.Models.{moves_model, minutes_model}
+use Rattle.cases_plans.specs.Rows.{Row, holds, fails, AllSay}
+use Rattle.cases_plans.specs.Values as values
+use Rattle.cases_plans.specs.Values.{numbers}
+use Rattle.cases_plans.specs.Basin.{move, lift, lower, stay, haul}
+
+-- ── laws, each broken by a model ──
+
+-- zero, or a join, that has no number for the column
+abbrev pub bare_zero : Model
+bare_zero = record moves_model { zero = [] }
+
+abbrev pub bare_join : Model
+bare_join = record moves_model { join = λ m a. [] }
+
+-- only a cost and itself are in order
+abbrev pub split : Model
+split = record moves_model { within = λ a b. slice_index a 0 == slice_index b 0 }
+
+-- a cost may be one above another that it is within: 2 is within 1, and 1 within 0, but 2 is not within 0
+abbrev pub loose : Model
+loose = record moves_model { within = λ a b. nat_le (slice_index a 0) (slice_index b 0 + 1) }
+
+-- costs that differ only in their moves tie
+abbrev pub blind : Model
+blind = record minutes_model { within = λ a b. nat_le (slice_index a 0) (slice_index b 0) }
+
+-- a cost of 0 is below that of no move
+abbrev pub raised : Model
+raised = record moves_model { zero = 1 ∷ [] }
+
+-- a move joined onto 0 costs more than one joined onto 1
+abbrev pub jumping : Model
+jumping = record moves_model { join = λ m a. cond (slice_index a 0 == 0) 5 (slice_index a 0 + 1) ∷ [] }
+
+-- a move makes a run cheaper
+abbrev pub falling : Model
+falling = record moves_model { join = λ m a. (slice_index a 0 - 1) ∷ [] }
+
+-- a move of no minutes costs nothing: this breaks the strict law alone
+abbrev pub free : Model
+free = record moves_model { join = λ m a. (slice_index a 0 + m.minutes) ∷ [] }
+
+abbrev pub lawful : List (Row Model)
+lawful =
+    holds moves_model ∷
+    holds minutes_model ∷
+    fails bare_zero ∷
+    fails bare_join ∷
+    fails split ∷
+    fails loose ∷
+    fails blind ∷
+    fails raised ∷
+    fails jumping ∷
+    fails falling ∷
+    fails free ∷
+    []
+
+abbrev pub LawfulSay : Type 0
+LawfulSay = AllSay Laws lawful
+
+abbrev pub weak : List (Row Model)
+weak =
+    holds moves_model ∷
+    holds minutes_model ∷
+    holds free ∷
+    fails bare_zero ∷
+    fails bare_join ∷
+    fails split ∷
+    fails loose ∷
+    fails blind ∷
+    fails raised ∷
+    fails jumping ∷
+    fails falling ∷
+    []
+
+abbrev pub WeakSay : Type 0
+WeakSay = AllSay WeakLaws weak
+
+-- ── costs ──
+
+pub data Claim : Type 0 where
+  sized : Model → List ℕ → Claim
+  at_most : Model → (a b : List ℕ) → Claim
+  small : List Move → Claim
+
+abbrev pub Means : Claim → Type 0
+Means (sized k a) = Sized k a
+Means (at_most k a b) = Le k a b
+Means (small ms) = Small ms
+
+abbrev pub rows : List (Row Claim)
+rows =
+    -- Sized: a number for each column
+    holds (sized moves_model (3 ∷ [])) ∷
+    holds (sized minutes_model (9 ∷ 1 ∷ [])) ∷
+    fails (sized moves_model []) ∷
+    fails (sized minutes_model (9 ∷ [])) ∷
+    -- Le: at most, in the model's order
+    holds (at_most moves_model (2 ∷ []) (2 ∷ [])) ∷
+    holds (at_most minutes_model (7 ∷ 9 ∷ []) (8 ∷ 1 ∷ [])) ∷
+    fails (at_most moves_model (3 ∷ []) (2 ∷ [])) ∷
+    fails (at_most minutes_model (7 ∷ 2 ∷ []) (7 ∷ 1 ∷ [])) ∷
+    -- Small: the minutes of each move fit into 16 bits
+    holds (small []) ∷
+    holds (small (lift ∷ move 0 0 1 65535 ∷ [])) ∷
+    fails (small (move 0 0 1 65536 ∷ [])) ∷
+    fails (small (lift ∷ move 0 0 1 70000 ∷ [])) ∷
+    []
+
+abbrev pub CostsSay : Type 0
+CostsSay = AllSay Means rows
+
+-- a model in which the order of the moves counts
+abbrev doubling : Model
+doubling = record moves_model { join = λ m a. (2 * slice_index a 0 + m.minutes) ∷ [] }
+
+-- cost: the moves of a run joined onto zero, from the last to the first
+abbrev pub runs : List (Row values.Claim)
+runs =
+    holds (numbers (cost moves_model []) (0 ∷ [])) ∷
+    holds (numbers (cost moves_model (lift ∷ lower ∷ [])) (2 ∷ [])) ∷
+    holds (numbers (cost minutes_model (lift ∷ lower ∷ [])) (7 ∷ 2 ∷ [])) ∷
+    holds (numbers (cost doubling (lift ∷ lower ∷ [])) (9 ∷ [])) ∷
+    fails (numbers (cost moves_model (lift ∷ lower ∷ [])) (7 ∷ [])) ∷
+    fails (numbers (cost minutes_model (lift ∷ lower ∷ [])) (2 ∷ 7 ∷ [])) ∷
+    fails (numbers (cost minutes_model (lift ∷ lower ∷ [])) (5 ∷ 1 ∷ [])) ∷
+    fails (numbers (cost doubling (lift ∷ lower ∷ [])) (12 ∷ [])) ∷
+    []
+
+abbrev pub RunsSay : Type 0
+RunsSay = AllSay values.Means runs
+
+-- ── what some run costs ──
+
+pub record Price : Type 0 where
+  pub model : Model
+  pub steps : ℕ
+  pub price : List ℕ
+
+abbrev price : Model → ℕ → List ℕ → Price
+price k n c = record { model = k; steps = n; price = c }
+
+abbrev pub IsReached : Price → Type 0
+IsReached p = Reached p.model p.steps p.price
+
+abbrev pub prices : List (Row Price)
+prices =
+    -- Reached: of at most so many moves, whichever they are
+    holds (price moves_model 2 (2 ∷ [])) ∷
+    holds (price moves_model 2 (0 ∷ [])) ∷
+    holds (price minutes_model 1 (65535 ∷ 1 ∷ [])) ∷
+    fails (price moves_model 2 (3 ∷ [])) ∷
+    fails (price minutes_model 3 (0 ∷ 4 ∷ [])) ∷
+    -- with the minutes of so many moves, and no more than a move can take
+    fails (price minutes_model 3 (5 ∷ 0 ∷ [])) ∷
+    fails (price minutes_model 1 (65536 ∷ 1 ∷ [])) ∷
+    []
+
+abbrev pub PricesSay : Type 0
+PricesSay = AllSay IsReached prices
