@@ -9,3 +9,5 @@ pub mod Sets
 pub mod Flags
 pub mod Costs
 pub mod Models
+pub mod Worked
+pub mod Locks

@@ -9,3 +9,4 @@ pub mod Flags
 pub mod Costs
 pub mod Models
 pub mod Compare
+pub mod Locks
