@@ -8,8 +8,8 @@ use Rattle.costs.specs.Models.{moves_model, minutes_model, moves_laws, minutes_l
 use Rattle.costs.proofs.Order.{was_true, weaken}
 use Rattle.costs.proofs.Sums.{moves_count, minutes_count, minutes_bound}
 use Rattle.cases_plans.specs.Basin.{move, lift, lower, stay}
-use Rattle.cases_plans.specs.Costs.{bare_zero, bare_join, split, loose, blind, raised, jumping, falling, free, lawful, LawfulSay, weak, WeakSay, Claim, sized, at_most, small, Means, rows, CostsSay, runs, RunsSay, IsReached, prices, PricesSay}
-use Rattle.cases_plans.proofs.Rows.{right, all_say, each_says}
+use Rattle.cases_plans.specs.Costs.{bare_zero, long_join, split, winding, blind, raised, jumping, falling, free, lawful, LawfulSay, weak, WeakSay, Claim, sized, at_most, small, Means, rows, CostsSay, runs, RunsSay, IsReached, prices, PricesSay}
+use Rattle.cases_plans.proofs.Rows.{right, all_say, ◌⨾◌, each_says}
 use Rattle.cases_plans.proofs.Tests.{both, equal, below}
 use Rattle.cases_plans.proofs.Values.{told, values_say}
 
@@ -18,18 +18,18 @@ use Rattle.cases_plans.proofs.Values.{told, values_say}
 no_bare_zero : WeakLaws bare_zero → ⊥
 no_bare_zero l = let e : ◌≡◌ {A = ℕ} 0 1 = l.zero_sized in omega arith
 
-no_bare_join : WeakLaws bare_join → ⊥
-no_bare_join l = let e : ◌≡◌ {A = ℕ} 0 1 = l.join_sized lift (0 ∷ []) refl in omega arith
+no_long_join : WeakLaws long_join → ⊥
+no_long_join l = let e : ◌≡◌ {A = ℕ} 2 1 = l.join_sized lift (0 ∷ []) refl in omega arith
 
 no_split : WeakLaws split → ⊥
-no_split l = ⊎_elim (λ t. t) (λ t. t) (l.total (0 ∷ []) (1 ∷ []) refl refl)
+no_split l = ⊎_elim (λ t. t) (λ t. t) (l.total (0 ∷ 1 ∷ []) (1 ∷ 0 ∷ []) refl refl)
 
-no_loose : WeakLaws loose → ⊥
-no_loose l = l.chain (2 ∷ []) (1 ∷ []) (0 ∷ []) refl refl refl tt tt
+no_winding : WeakLaws winding → ⊥
+no_winding l = l.chain (0 ∷ 2 ∷ []) (2 ∷ 1 ∷ []) (4 ∷ 0 ∷ []) refl refl refl tt tt
 
 no_blind : WeakLaws blind → ⊥
 no_blind l =
-    let e : ◌≡◌ {A = ℕ} 0 1 = ap (λ (a : List ℕ). get_or a 1 0) (l.tie (4 ∷ 0 ∷ []) (4 ∷ 1 ∷ []) refl refl tt tt) in
+    let e : ◌≡◌ {A = ℕ} 0 1 = ap (λ (a : List ℕ). get_or a 0 0) (l.tie (0 ∷ 4 ∷ []) (1 ∷ 4 ∷ []) refl refl tt tt) in
     omega arith
 
 no_raised : WeakLaws raised → ⊥
@@ -58,39 +58,35 @@ free_laws = record {
 
 pub lawful_say : LawfulSay
 lawful_say = each_says Laws lawful (
-  moves_laws,
-  (
-    minutes_laws,
-    (
-      λ l. no_bare_zero (weaken l),
-      (
-        λ l. no_bare_join (weaken l),
-        (
-          λ l. no_split (weaken l),
-          (
-            λ l. no_loose (weaken l),
-            (
-              λ l. no_blind (weaken l),
-              (λ l. no_raised (weaken l), (λ l. no_jumping (weaken l), (λ l. no_falling (weaken l), (no_free, tt)))),
-            ),
-          ),
-        ),
-      ),
-    ),
-  ),
-)
+    moves_laws
+    ⨾ minutes_laws
+    ⨾ (λ l. no_bare_zero (weaken l))
+    ⨾ (λ l. no_long_join (weaken l))
+    ⨾ (λ l. no_split (weaken l))
+    ⨾ (λ l. no_winding (weaken l))
+    ⨾ (λ l. no_blind (weaken l))
+    ⨾ (λ l. no_raised (weaken l))
+    ⨾ (λ l. no_jumping (weaken l))
+    ⨾ (λ l. no_falling (weaken l))
+    ⨾ no_free
+    ⨾ tt
+    )
 
 pub weak_say : WeakSay
 weak_say = each_says WeakLaws weak (
-  weaken moves_laws,
-  (
-    weaken minutes_laws,
-    (
-      free_laws,
-      (no_bare_zero, (no_bare_join, (no_split, (no_loose, (no_blind, (no_raised, (no_jumping, (no_falling, tt)))))))),
-    ),
-  ),
-)
+    weaken moves_laws
+    ⨾ weaken minutes_laws
+    ⨾ free_laws
+    ⨾ no_bare_zero
+    ⨾ no_long_join
+    ⨾ no_split
+    ⨾ no_winding
+    ⨾ no_blind
+    ⨾ no_raised
+    ⨾ no_jumping
+    ⨾ no_falling
+    ⨾ tt
+    )
 
 -- ── costs ──
 
@@ -156,12 +152,12 @@ too_long r =
 
 pub prices_say : PricesSay
 prices_say = each_says IsReached prices (
-  record { moves = lift ∷ lower ∷ []; short = omega arith; small = (omega arith, (omega arith, tt)); same = refl },
-  (
-    record { moves = []; short = omega arith; small = tt; same = refl },
-    (
-      record { moves = move 0 0 1 65535 ∷ []; short = omega arith; small = (omega arith, tt); same = refl },
-      (few_moves, (few_timed, (idle, (too_long, tt)))),
-    ),
-  ),
-)
+    record { moves = lift ∷ lower ∷ []; short = omega arith; small = (omega arith, (omega arith, tt)); same = refl }
+    ⨾ record { moves = []; short = omega arith; small = tt; same = refl }
+    ⨾ record { moves = move 0 0 1 65535 ∷ []; short = omega arith; small = (omega arith, tt); same = refl }
+    ⨾ few_moves
+    ⨾ few_timed
+    ⨾ idle
+    ⨾ too_long
+    ⨾ tt
+    )

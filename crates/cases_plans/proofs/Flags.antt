@@ -7,7 +7,7 @@ use Rattle.plans.specs.Simulation.{Domain, WellFormed, InRange, Kept, Rank}
 use Rattle.plans.proofs.Decide.{alike as agree, implies, or_cases, or_left, or_right}
 use Rattle.plans.proofs.Flags.{drop_none, drop_one}
 use Rattle.cases_plans.specs.Flags.{readings, ReadingsSay, Drop, IsDrop, drops, DropsSay, Claim, judged, verdict, Means, rows, FlagsSay}
-use Rattle.cases_plans.proofs.Rows.{alike, right, all_say, each_says}
+use Rattle.cases_plans.proofs.Rows.{alike, right, all_say, ◌⨾◌, each_says}
 use Rattle.cases_plans.proofs.Values.{alike_iff, told, values_say}
 use Rattle.cases_plans.proofs.Kept.{range_decided, formed_test, formed_decided, pairwise, pairwise_iff, kept_test, kept_decided, rank_test, rank_decided}
 
@@ -21,28 +21,19 @@ readings_say = values_say readings all_told
 
 pub drops_say : DropsSay
 drops_say = each_says IsDrop drops (
-  drop_none (true ∷ false ∷ []) (0 ∷ 5 ∷ []) 7,
-  (
-    drop_one (true ∷ true ∷ []) (true ∷ true ∷ []) (0 ∷ 0 ∷ []) (0 ∷ 0 ∷ []) 7 false
-        (drop_none (true ∷ true ∷ []) (0 ∷ 0 ∷ []) 7) 0 (omega arith) refl,
-    (
-      λ d. let e : ◌≡◌ {A = ℕ} 2 1 = d.long in omega arith,
-      (
-        λ d. let e : ◌≡◌ {A = ℕ} 2 1 = d.wide in omega arith,
-        (
-          λ d. false≢true (d.down 1 refl),
-          (
-            λ d. let e : ◌≡◌ {A = ℕ} 0 7 = d.noted 0 refl refl in omega arith,
-            (
-              λ d. let e : ◌≡◌ {A = ℕ} 7 0 = d.stays 1 refl in omega arith,
-              (λ d. false≢true (d.same refl 0), (λ d. omega (arith, d.fewer), tt)),
-            ),
-          ),
-        ),
-      ),
-    ),
-  ),
-)
+    drop_none (true ∷ false ∷ []) (0 ∷ 5 ∷ []) 7
+    ⨾ drop_one (true ∷ true ∷ []) (true ∷ true ∷ []) (0 ∷ 0 ∷ []) (0 ∷ 0 ∷ []) 7 false
+    (drop_none (true ∷ true ∷ []) (0 ∷ 0 ∷ []) 7) 0 (omega arith) refl
+    ⨾ (λ d. let e : ◌≡◌ {A = ℕ} 2 1 = d.long in omega arith)
+    ⨾ (λ d. let e : ◌≡◌ {A = ℕ} 2 1 = d.wide in omega arith)
+    ⨾ (λ d. false≢true (d.down 1 refl))
+    ⨾ (λ d. let e : ◌≡◌ {A = ℕ} 0 7 = d.noted 0 refl refl in omega arith)
+    ⨾ (λ d. let e : ◌≡◌ {A = ℕ} 7 0 = d.stays 1 refl in omega arith)
+    ⨾ (λ d. let e : ◌≡◌ {A = ℕ} 7 3 = d.stays 0 refl in omega arith)
+    ⨾ (λ d. false≢true (d.same refl 0))
+    ⨾ (λ d. omega (arith, d.fewer))
+    ⨾ tt
+    )
 
 -- ── what stands after some steps, and at the end ──
 

@@ -2,11 +2,11 @@
 use Rattle.std.proofs.Common.{◌≡◌, Bool, true, ◌↔◌, refl}
 use lib.Count.{ones}
 use Rattle.plans.specs.Reach.{each}
-use Rattle.cases_plans.specs.Locks.{lookups, LookupsSay, EveryLookup, Claim, is_at, leads, in_order, told, worked, worked_nth, worked_least, before, goes, goes_nth, goes_least, nearest, Means, rows, LocksSay}
+use Rattle.cases_plans.specs.Locks.{lookups, LookupsSay, Claim, is_at, leads, in_order, told, worked, worked_nth, worked_least, before, goes, goes_nth, goes_least, nearest, Means, rows, LocksSay}
 use Rattle.cases_plans.proofs.Rows.{right, all_say}
 use Rattle.cases_plans.proofs.Values as values
 use Rattle.cases_plans.proofs.Values.{values_say}
-use Rattle.cases_plans.proofs.Worked.{at_test, at_decided, leads_test, leads_decided, rise_test, order_decided, told_test, told_decided, every_lookup, worked_test, worked_decided, nth_test, nth_decided, before_test, before_decided, least_test, least_decided, goes_test, goes_decided, goes_nth_test, goes_nth_decided, goes_least_test, goes_least_decided, nearest_test, nearest_decided}
+use Rattle.cases_plans.proofs.Worked.{at_test, at_decided, leads_test, leads_decided, rise_test, order_decided, told_test, told_decided, worked_test, worked_decided, nth_test, nth_decided, before_test, before_decided, least_test, least_decided, goes_test, goes_decided, goes_nth_test, goes_nth_decided, goes_least_test, goes_least_decided, nearest_test, nearest_decided}
 use Rattle.locks.specs.Works.{outcomes}
 
 all_told : values.told lookups ≡ true

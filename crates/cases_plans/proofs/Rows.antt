@@ -33,6 +33,11 @@ abbrev pub Each : {A : Type 0} → (A → Type 0) → List (Row A) → Type 0
 Each Means [] = Unit {0}
 Each Means (x ∷ xs) = Says x.stands (Means x.claim) × Each Means xs
 
+-- what a row says, and then what those after it say
+infixr 5 ◌⨾◌
+abbrev pub ◌⨾◌ : {P Q : Type 0} → P → Q → P × Q
+p ⨾ q = (p, q)
+
 pub each_says : {A : Type 0} (Means : A → Type 0) (rows : List (Row A)) → Each Means rows → AllSay Means rows
 each_says Means [] h r i = absurd i
 each_says {A} Means (x ∷ xs) h r (inl q) = subst (λ (y : Row A). Says y.stands (Means y.claim)) (sym q) h.0

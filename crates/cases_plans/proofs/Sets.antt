@@ -10,7 +10,7 @@ use Rattle.plans.proofs.Flags.{every_at, at_every}
 use Rattle.cases_plans.specs.Rows.{Row, Says, AllSay}
 use Rattle.cases_plans.specs.Basin.{moves, basin, jamming}
 use Rattle.cases_plans.specs.Sets.{Claim, attainable, steps_into, member, closed, stable, Means, rows, computed, iterations, SetsSay, ComputedSay, IterationsSay}
-use Rattle.cases_plans.proofs.Rows.{alike, right, all_say, each_says}
+use Rattle.cases_plans.proofs.Rows.{alike, right, all_say, ◌⨾◌, each_says}
 use Rattle.cases_plans.proofs.Values.{alike_iff, told, values_say}
 use Rattle.cases_plans.proofs.Tests.{within_decided}
 use Rattle.cases_plans.proofs.Kept.{formed_decided, pairwise, pairwise_iff}
@@ -117,22 +117,15 @@ no_step W k s c r e it =
 
 pub iterations_say : IterationsSay
 iterations_say = each_says (Iterates basin) iterations (
-  as_left (left basin) (λ k s c r. refl),
-  (
-    as_left (λ k s c. left basin k s c || eqb s 3)
-        (λ k s c r. outside (left basin k s c) (eqb s 3) (ne_eqb s 3 (λ q. let l = r.0 in omega arith))),
-    (
-      no_step (λ k s c. true) 0 1 2 (omega arith, omega arith) refl,
-      (
-        no_start (λ k s c. false) 0 0 (omega arith, omega arith) refl,
-        (
-          no_start (λ k s c. left basin (suc k) s c) 1 2 (omega arith, omega arith) refl,
-          (no_step (λ k s c. left jamming k s c) 1 0 0 (omega arith, omega arith) refl, tt),
-        ),
-      ),
-    ),
-  ),
-)
+    as_left (left basin) (λ k s c r. refl)
+    ⨾ as_left (λ k s c. left basin k s c || eqb s 4)
+    (λ k s c r. outside (left basin k s c) (eqb s 4) (ne_eqb s 4 (λ q. let l = r.0 in omega arith)))
+    ⨾ no_step (λ k s c. true) 0 1 2 (omega arith, omega arith) refl
+    ⨾ no_start (λ k s c. false) 0 0 (omega arith, omega arith) refl
+    ⨾ no_start (λ k s c. left basin (suc k) s c) 1 2 (omega arith, omega arith) refl
+    ⨾ no_step (λ k s c. left jamming k s c) 1 0 0 (omega arith, omega arith) refl
+    ⨾ tt
+    )
   where
     outside : (a b : Bool) → b ≡ false → (a || b) ≡ a
     outside true b e = refl

@@ -9,7 +9,7 @@ use Rattle.plans.specs.Plans.{Possible}
 use Rattle.plans.specs.Reach.{some, each}
 use Rattle.plans.proofs.Decide.{some_in, in_some, each_in, in_each, implies, or_cases, or_left, or_right}
 use Rattle.plans.proofs.Flags.{every_at, at_every}
-use Rattle.locks.specs.Places.{place_of, IsAt, Leads, possible, Lookups}
+use Rattle.locks.specs.Places.{place_of, IsAt, Leads, possible}
 use Rattle.locks.specs.Works.{Told, Worked, outcomes, InOrder, WorkedNth, change, Before, WorkedLeast}
 use Rattle.locks.specs.Targets.{Goes, GoesNth, GoesLeast, Nearest}
 use Rattle.locks.proofs.Outcomes.{outcome_in, outcome_of}
@@ -115,13 +115,6 @@ told_decided M m r = (
     go None q false t = refl
     go (Some c) q true t = refl
     go (Some c) q false t = absurd (t.not refl c (place_is M.conditions m c q))
-
-pub every_lookup : (M : Model) → Lookups M
-every_lookup M = record {
-  found = λ m c e. place_is M.conditions m c e;
-  missing = λ m c e a. place_none M.conditions m e c a.0 a.1;
-  passes = λ c o. possible_decided M.moves c o;
-}
 
 -- ── where an operation leads ──
 

@@ -69,17 +69,17 @@ settle = record { from = 1; to = 0; keep = isnt 2; reach = is 0 }
 abbrev pub strand : Task
 strand = record { from = 0; to = 0; keep = any; reach = is 2 }
 
--- the lock with the first two requests, and a stage 2 that has none
+-- the lock with the first two requests, and stages 2 and 3 that have none
 abbrev pub basin : Domain
-basin = record { conditions = 3; stages = 3; moves = moves; tasks = raise ∷ settle ∷ [] }
+basin = record { conditions = 3; stages = 4; moves = moves; tasks = raise ∷ settle ∷ [] }
 
 -- the same without hauling, so that a lift may always jam
 abbrev pub jamming : Domain
-jamming = record { conditions = 3; stages = 3; moves = lift ∷ jam ∷ lower ∷ stay ∷ []; tasks = raise ∷ settle ∷ [] }
+jamming = record { conditions = 3; stages = 4; moves = lift ∷ jam ∷ lower ∷ stay ∷ []; tasks = raise ∷ settle ∷ [] }
 
 -- with all three requests
 abbrev pub stranding : Domain
-stranding = record { conditions = 3; stages = 3; moves = moves; tasks = raise ∷ settle ∷ strand ∷ [] }
+stranding = record { conditions = 3; stages = 4; moves = moves; tasks = raise ∷ settle ∷ strand ∷ [] }
 
 -- a pair, and a set of pairs from a list
 pub record Pair : Type 0 where

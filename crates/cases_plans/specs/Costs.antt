@@ -1,5 +1,5 @@
 -- Examples of cost models with their laws, and of what runs cost.
-use Rattle.std.specs.Prelude.{ℕ, ◌+◌, ◌-◌, ◌*◌, Bool, cond, List, [], ◌∷◌, ◌==◌, nat_le, slice_index}
+use Rattle.std.specs.Prelude.{ℕ, ◌+◌, ◌-◌, ◌*◌, Bool, cond, ◌&&◌, ◌||◌, List, [], ◌∷◌, ◌==◌, nat_le, nat_lt, slice_index}
 use Rattle.port.specs.declared.Move.{Move}
 use Rattle.costs.specs.Costs.{Model, Sized, Le, Laws, WeakLaws, cost, Small, Reached}
 use Rattle.costs.specs.Models.{moves_model, minutes_model}
@@ -10,24 +10,27 @@ use Rattle.cases_plans.specs.Basin.{move, lift, lower, stay, haul}
 
 -- ── laws, each broken by a model ──
 
--- zero, or a join, that has no number for the column
+-- zero without a number for the column, and a join with one too many
 abbrev pub bare_zero : Model
 bare_zero = record moves_model { zero = [] }
 
-abbrev pub bare_join : Model
-bare_join = record moves_model { join = λ m a. [] }
+abbrev pub long_join : Model
+long_join = record moves_model { join = λ m a. (slice_index a 0 + 1) ∷ 0 ∷ [] }
 
--- only a cost and itself are in order
+-- in order only where minutes and moves both are
 abbrev pub split : Model
-split = record moves_model { within = λ a b. slice_index a 0 == slice_index b 0 }
+split = record minutes_model { within = λ a b. nat_le (slice_index a 0) (slice_index b 0) && nat_le (slice_index a 1) (slice_index b 1) }
 
--- a cost may be one above another that it is within: 2 is within 1, and 1 within 0, but 2 is not within 0
-abbrev pub loose : Model
-loose = record moves_model { within = λ a b. nat_le (slice_index a 0) (slice_index b 0 + 1) }
+-- more minutes weigh less than fewer moves, but only up to 3: (0, 2) is within (2, 1), and that within (4, 0)
+abbrev winds : (x x' y y' : ℕ) → Bool
+winds x x' y y' = cond (nat_le x y) (nat_le x' y' || (nat_lt x y && nat_le y (x + 3))) (nat_lt x' y' && nat_lt (y + 3) x)
 
--- costs that differ only in their moves tie
+abbrev pub winding : Model
+winding = record minutes_model { within = λ a b. winds (slice_index a 0) (slice_index a 1) (slice_index b 0) (slice_index b 1) }
+
+-- costs that differ only in their minutes tie
 abbrev pub blind : Model
-blind = record minutes_model { within = λ a b. nat_le (slice_index a 0) (slice_index b 0) }
+blind = record minutes_model { within = λ a b. nat_le (slice_index a 1) (slice_index b 1) }
 
 -- a cost of 0 is below that of no move
 abbrev pub raised : Model
@@ -50,9 +53,9 @@ lawful =
     holds moves_model ∷
     holds minutes_model ∷
     fails bare_zero ∷
-    fails bare_join ∷
+    fails long_join ∷
     fails split ∷
-    fails loose ∷
+    fails winding ∷
     fails blind ∷
     fails raised ∷
     fails jumping ∷
@@ -69,9 +72,9 @@ weak =
     holds minutes_model ∷
     holds free ∷
     fails bare_zero ∷
-    fails bare_join ∷
+    fails long_join ∷
     fails split ∷
-    fails loose ∷
+    fails winding ∷
     fails blind ∷
     fails raised ∷
     fails jumping ∷

@@ -15,7 +15,7 @@ settling = record { from = 1; to = 0; keep = codes "!b"; reach = codes "!a" }
 
 abbrev pub port : Model
 port = record {
-  header = record { marks = 2; operations = 4; stages = 5; stage = 0; condition = 0 };
+  header = record { marks = 2; operations = 4; stages = 6; stage = 0; condition = 0 };
   conditions = 0 ∷ 1 ∷ 3 ∷ [];
   moves = moves;
   requests = raising ∷ settling ∷ [];
@@ -23,11 +23,12 @@ port = record {
 
 abbrev pub rows : List (Row Claim)
 rows =
-    -- holds_in: a text is read on the marks of a condition, and not on its number
+    -- holds_in: a text is read on the marks of a condition, and not on its number; past the last condition on no mark
     holds (flag (holds_in port (codes "1") 0) true) ∷
     holds (flag (holds_in port (codes "a") 0) false) ∷
     holds (flag (holds_in port (codes "a&!b") 1) true) ∷
     holds (flag (holds_in port (codes "a&b") 2) true) ∷
+    holds (flag (holds_in port (codes "!a") 3) true) ∷
     fails (flag (holds_in port (codes "b") 1) true) ∷
     fails (flag (holds_in port (codes "b&!a") 2) true) ∷
     -- task_of: the stages of a request, and where its texts hold
@@ -43,7 +44,7 @@ rows =
     fails (flag ((task_of port settling).reach 1) true) ∷
     -- domain_of: as many conditions and stages as the port has, its moves in their order, and a task for each request
     holds (number (domain_of port).conditions 3) ∷
-    holds (number (domain_of port).stages 5) ∷
+    holds (number (domain_of port).stages 6) ∷
     holds (transitions (domain_of port).moves (lift ∷ jam ∷ haul ∷ lower ∷ stay ∷ [])) ∷
     holds (number (length (domain_of port).tasks) 2) ∷
     fails (number (domain_of port).conditions 2) ∷

@@ -98,6 +98,8 @@ drops =
     -- the step is not noted, or noted where no flag was dropped
     fails (drop (true ∷ []) (false ∷ []) (0 ∷ []) (0 ∷ []) true) ∷
     fails (drop (true ∷ true ∷ []) (false ∷ true ∷ []) (0 ∷ 0 ∷ []) (7 ∷ 7 ∷ []) true) ∷
+    -- another number where the flag was down before
+    fails (drop (false ∷ []) (false ∷ []) (3 ∷ []) (7 ∷ []) false) ∷
     -- a change that is not told, and one that is told and was none
     fails (drop (true ∷ []) (false ∷ []) (0 ∷ []) (7 ∷ []) false) ∷
     fails (drop (true ∷ []) (true ∷ []) (0 ∷ []) (0 ∷ []) true) ∷
@@ -118,20 +120,20 @@ Means (verdict D alive ranks) = Verdict D D.conditions alive ranks
 
 -- flags by stage and condition: all, without the pair (1, 2), and without (0, 2) too
 abbrev all : List Bool
-all = true ∷ true ∷ true ∷ true ∷ true ∷ true ∷ true ∷ true ∷ true ∷ []
+all = true ∷ true ∷ true ∷ true ∷ true ∷ true ∷ true ∷ true ∷ true ∷ true ∷ true ∷ true ∷ []
 
 abbrev fewer : List Bool
-fewer = true ∷ true ∷ true ∷ true ∷ true ∷ false ∷ true ∷ true ∷ true ∷ []
+fewer = true ∷ true ∷ true ∷ true ∷ true ∷ false ∷ true ∷ true ∷ true ∷ true ∷ true ∷ true ∷ []
 
 abbrev fewest : List Bool
-fewest = true ∷ true ∷ false ∷ true ∷ true ∷ false ∷ true ∷ true ∷ true ∷ []
+fewest = true ∷ true ∷ false ∷ true ∷ true ∷ false ∷ true ∷ true ∷ true ∷ true ∷ true ∷ true ∷ []
 
 -- numbers: (1, 2) has 1 and (0, 2) the number given, and where nothing is dropped stands another number
 abbrev zeros : List ℕ
-zeros = 0 ∷ 0 ∷ 0 ∷ 0 ∷ 0 ∷ 0 ∷ 0 ∷ 0 ∷ 0 ∷ []
+zeros = 0 ∷ 0 ∷ 0 ∷ 0 ∷ 0 ∷ 0 ∷ 0 ∷ 0 ∷ 0 ∷ 0 ∷ 0 ∷ 0 ∷ []
 
 abbrev noted : ℕ → ℕ → List ℕ
-noted other n = other ∷ other ∷ n ∷ other ∷ other ∷ 1 ∷ other ∷ other ∷ other ∷ []
+noted other n = other ∷ other ∷ n ∷ other ∷ other ∷ 1 ∷ other ∷ other ∷ other ∷ other ∷ other ∷ other ∷ []
 
 abbrev pub rows : List (Row Claim)
 rows =

@@ -1,7 +1,7 @@
 -- Examples of what a lock tells, and what it does when it is worked.
 use Rattle.std.specs.Prelude.{ℕ, Bool, true, false, cond, Some, None, Option, List, [], ◌∷◌, ◌==◌}
 use Rattle.port.specs.Model.{Model}
-use Rattle.locks.specs.Places.{next, place_of, IsAt, Leads, fits, possible, Lookups}
+use Rattle.locks.specs.Places.{next, place_of, IsAt, Leads, fits, possible}
 use Rattle.locks.specs.Works.{Told, Worked, outcomes, InOrder, WorkedNth, change, Before, WorkedLeast}
 use Rattle.locks.specs.Targets.{Goes, GoesNth, GoesLeast, named_by, Nearest}
 use Rattle.cases_plans.specs.Rows.{Row, holds, fails, AllSay}
@@ -70,10 +70,6 @@ lookups =
 
 abbrev pub LookupsSay : Type 0
 LookupsSay = AllSay values.Means lookups
-
--- Lookups holds of every model, so that there is none to refute it.
-abbrev pub EveryLookup : Type 0
-EveryLookup = (M : Model) → Lookups M
 
 -- ── what is said of locks ──
 

@@ -1,5 +1,5 @@
 -- Examples of the sets that a program computes: what is attainable, what grows, what is left, and the iteration.
-use Rattle.std.specs.Prelude.{◌≡◌, ℕ, zero, suc, Bool, true, false, not, ◌||◌, ◌==◌, List, [], ◌∷◌}
+use Rattle.std.specs.Prelude.{◌≡◌, ℕ, zero, suc, Bool, true, false, not, ◌&&◌, ◌||◌, ◌==◌, List, [], ◌∷◌}
 use Rattle.plans.specs.Simulation.{Domain}
 use Rattle.plans.specs.Iterate.{Iterates, Stable, cut}
 use Rattle.plans.specs.Reach.{Attainable, Steps, Member, Closed, some, each, leads, steps, grown, attains, reached, aim, serves, left}
@@ -53,13 +53,14 @@ rows =
     holds (closed 3 any (is 1) (isnt 2)) ∷
     holds (closed 3 (isnt 0) (is 1) (is 1)) ∷
     holds (closed 1 any (is 2) none) ∷
+    holds (closed 1 any (is 0) (is 0)) ∷
     fails (closed 3 any (is 2) none) ∷
     fails (closed 3 any (is 1) (is 1)) ∷
     fails (closed 2 any none (is 1)) ∷
     -- Stable: the set after a step is that before it, for the pairs that there are
     holds (stable basin (left basin) 2) ∷
     holds (stable jamming (left jamming) 4) ∷
-    holds (stable basin (λ k s c. c == 3) 0) ∷
+    holds (stable basin (λ k s c. k == 0 && c == 3) 0) ∷
     fails (stable basin (left basin) 0) ∷
     fails (stable basin (left basin) 1) ∷
     fails (stable jamming (left jamming) 3) ∷
@@ -126,7 +127,8 @@ computed =
     -- cut: a set, within the domain
     holds (flag (cut basin everywhere 2 2) true) ∷
     holds (flag (cut basin (among (pair 0 1 ∷ [])) 0 1) true) ∷
-    fails (flag (cut basin everywhere 3 0) true) ∷
+    holds (flag (cut basin everywhere 3 0) true) ∷
+    fails (flag (cut basin everywhere 4 0) true) ∷
     fails (flag (cut basin everywhere 0 3) true) ∷
     fails (flag (cut basin (among []) 0 1) true) ∷
     []
@@ -137,7 +139,7 @@ computed =
 abbrev pub iterations : List (Row (ℕ → ℕ → ℕ → Bool))
 iterations =
     holds (left basin) ∷
-    holds (λ k s c. left basin k s c || (s == 3)) ∷
+    holds (λ k s c. left basin k s c || (s == 4)) ∷
     fails (λ k s c. true) ∷
     fails (λ k s c. false) ∷
     fails (λ k s c. left basin (suc k) s c) ∷

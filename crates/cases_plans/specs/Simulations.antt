@@ -48,7 +48,7 @@ rows =
     fails (meets basin raise stop 0) ∷
     fails (meets basin raise lifting 1) ∷
     fails (meets basin settle lifting 2) ∷
-    fails (meets basin settle (try_and_lower) 0) ∷
+    fails (meets basin settle try_and_lower 0) ∷
     -- EndsIn: every run of the plan; of one that cannot be worked there is none
     holds (ends_in basin lifting 0 (isnt 0)) ∷
     holds (ends_in basin hauling 0 (is 1)) ∷
@@ -65,6 +65,7 @@ rows =
     holds (serves stranding everywhere 0 2) ∷
     fails (serves basin (among []) 0 0) ∷
     fails (serves basin (among (pair 0 1 ∷ [])) 0 0) ∷
+    fails (serves basin (among (pair 1 0 ∷ [])) 0 0) ∷
     fails (serves basin (among (pair 1 2 ∷ [])) 0 0) ∷
     fails (serves jamming (among (pair 1 1 ∷ [])) 0 0) ∷
     fails (serves basin everywhere 1 2) ∷
@@ -72,7 +73,8 @@ rows =
     -- InRange: there are such a stage and such a condition
     holds (in_range basin 0 0) ∷
     holds (in_range basin 2 2) ∷
-    fails (in_range basin 3 0) ∷
+    holds (in_range basin 3 0) ∷
+    fails (in_range basin 4 0) ∷
     fails (in_range basin 0 3) ∷
     -- Holds: the set has the pair
     holds (has everywhere 7 7) ∷
@@ -89,7 +91,7 @@ rows =
     fails (simulates basin (pair 0 0 ∷ pair 1 1 ∷ pair 1 2 ∷ [])) ∷
     fails (simulates jamming (pair 0 0 ∷ pair 1 1 ∷ [])) ∷
     fails (simulates basin (pair 2 3 ∷ [])) ∷
-    fails (simulates basin (pair 3 0 ∷ [])) ∷
+    fails (simulates basin (pair 4 0 ∷ [])) ∷
     -- Kept: in some simulation, so that it is a pair that there is
     holds (kept basin 0 0) ∷
     holds (kept basin 1 1) ∷
@@ -97,7 +99,7 @@ rows =
     fails (kept basin 0 2) ∷
     fails (kept basin 1 2) ∷
     fails (kept jamming 0 1) ∷
-    fails (kept basin 3 0) ∷
+    fails (kept basin 4 0) ∷
     fails (kept basin 2 3) ∷
     -- ServesRow: so many requests, whichever they are
     holds (serves_row basin 0 1 2) ∷

@@ -6,7 +6,7 @@ ghost use Rattle.cases_plans.specs.Compare.{CompareSay};
 ghost use Rattle.cases_plans.specs.Costs.{CostsSay, LawfulSay, PricesSay, RunsSay, WeakSay};
 ghost use Rattle.cases_plans.specs.Domains.{DomainsSay};
 ghost use Rattle.cases_plans.specs.Flags.{DropsSay, FlagsSay, ReadingsSay};
-ghost use Rattle.cases_plans.specs.Locks.{EveryLookup, LocksSay, LookupsSay};
+ghost use Rattle.cases_plans.specs.Locks.{LocksSay, LookupsSay};
 ghost use Rattle.cases_plans.specs.Models.{ModelsSay, OrdersSay};
 ghost use Rattle.cases_plans.specs.Plans.{PlansSay};
 ghost use Rattle.cases_plans.specs.Sets.{ComputedSay, IterationsSay, SetsSay};
@@ -134,13 +134,6 @@ pub fn compare_stand() -> bool
 // What is looked up in a port.
 pub fn lookups_stand() -> bool
     ensures { LookupsSay }
-{
-    true
-}
-
-// What is looked up is what is meant, in every model of a port.
-pub fn every_lookup_stands() -> bool
-    ensures { EveryLookup }
 {
     true
 }
