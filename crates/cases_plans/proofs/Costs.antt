@@ -1,9 +1,8 @@
 -- The rows of laws and costs.
-use Rattle.std.proofs.Common.{◌≡◌, ℕ, ◌+◌, ◌*◌, ◌<◌, ◌≤◌, Bool, true, false, ◌&&◌, T, eqb, ltb, ◌⊎◌, ◌↔◌, List, [], ◌∷◌, length, get_or, sym, refl, ap, ◌∙◌, subst, ⊎_elim, arith, le→leb, leb→le}
-use mathlib.Core.Bool.{false≢true}
+use Rattle.std.proofs.Common.{◌≡◌, ℕ, Bool, true, false, ◌&&◌, T, eqb, ltb, ◌↔◌, List, [], ◌∷◌, length, get_or, refl, ap, ◌∙◌, ⊎_elim, arith, le→leb, leb→le}
 use Rattle.port.specs.declared.Move.{Move}
 use Rattle.plans.specs.Reach.{each}
-use Rattle.costs.specs.Costs.{Model, Sized, Le, Laws, WeakLaws, cost, Small, Reached}
+use Rattle.costs.specs.Costs.{Laws, WeakLaws, cost, Small, Reached}
 use Rattle.costs.specs.Models.{moves_model, minutes_model, moves_laws, minutes_laws}
 use Rattle.costs.proofs.Order.{was_true, weaken}
 use Rattle.costs.proofs.Sums.{moves_count, minutes_count, minutes_bound}

@@ -1,15 +1,15 @@
 -- The rows of flags.
 use Rattle.std.proofs.Common.{◌≡◌, ℕ, Bool, true, false, not, ◌&&◌, ◌||◌, ◌↔◌, List, [], ◌∷◌, sym, refl, ◌∙◌, true≢false, arith}
 use mathlib.Core.Bool.{and-eq-true_iff, false≢true}
-use Rattle.plans.specs.Flags.{pairs, rank_at, Dropped, Judged, Verdict}
+use Rattle.plans.specs.Flags.{pairs, rank_at, Judged, Verdict}
 use Rattle.plans.specs.Reach.{each, left}
 use Rattle.plans.specs.Simulation.{Domain, WellFormed, InRange, Kept, Rank}
-use Rattle.plans.proofs.Decide.{alike as agree, implies, or_cases, or_left, or_right}
+use Rattle.plans.proofs.Decide.{alike as agree, implies}
 use Rattle.plans.proofs.Flags.{drop_none, drop_one}
-use Rattle.cases_plans.specs.Flags.{readings, ReadingsSay, Drop, IsDrop, drops, DropsSay, Claim, judged, verdict, Means, rows, FlagsSay}
+use Rattle.cases_plans.specs.Flags.{readings, ReadingsSay, IsDrop, drops, DropsSay, Claim, judged, verdict, Means, rows, FlagsSay}
 use Rattle.cases_plans.proofs.Rows.{alike, right, all_say, ◌⨾◌, each_says}
 use Rattle.cases_plans.proofs.Values.{alike_iff, told, values_say}
-use Rattle.cases_plans.proofs.Kept.{range_decided, formed_test, formed_decided, pairwise, pairwise_iff, kept_test, kept_decided, rank_test, rank_decided}
+use Rattle.cases_plans.proofs.Kept.{formed_test, formed_decided, pairwise, pairwise_iff, kept_test, kept_decided, rank_test, rank_decided}
 
 all_told : told readings ≡ true
 all_told = refl

@@ -1,12 +1,12 @@
 -- Tests that decide what is said of domains: what plans end in, what is served, what is kept, and ranks.
-use Rattle.std.proofs.Common.{◌≡◌, ℕ, zero, suc, ◌*◌, ◌<◌, Bool, true, false, not, ◌&&◌, ◌||◌, eqb, ltb, ◌↔◌, List, [], ◌∷◌, sym, refl, ap, ◌∙◌, subst, true≢false, arith, eq-eqb, eqb-true}
-use mathlib.Core.Bool.{and-eq-true_iff, false≢true}
+use Rattle.std.proofs.Common.{◌≡◌, ℕ, zero, suc, ◌*◌, ◌<◌, Bool, true, not, ◌&&◌, eqb, ltb, ◌↔◌, List, [], ◌∷◌, sym, refl, ap, subst, arith, eq-eqb, eqb-true}
+use mathlib.Core.Bool.{and-eq-true_iff}
 use Rattle.port.specs.Limits.{In}
 use Rattle.port.specs.declared.Move.{Move}
 use Rattle.plans.specs.Flags.{every}
 use Rattle.plans.specs.Plans.{Plan, stop, work, Can, IsRun, end}
-use Rattle.plans.specs.Reach.{each, some, serves, left}
-use Rattle.plans.specs.Simulation.{Task, Domain, WellFormed, EndsIn, Serves, InRange, Holds, Simulation, Kept, ServesRow, Rank}
+use Rattle.plans.specs.Reach.{each, serves, left}
+use Rattle.plans.specs.Simulation.{Task, Domain, WellFormed, Serves, InRange, Holds, Simulation, Kept, Rank}
 use Rattle.plans.proofs.Decide.{some_in, in_some, each_in, in_each, serves_decided, left_iterates, row_kept}
 use Rattle.plans.proofs.Flags.{every_at, at_every}
 use Rattle.plans.proofs.Index.{is_false}

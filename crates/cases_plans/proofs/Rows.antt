@@ -1,7 +1,6 @@
 -- From one test that is computed over all rows to what each of them says.
-use Rattle.std.proofs.Common.{◌≡◌, Bool, true, false, cond, not, ◌&&◌, ◌↔◌, List, [], ◌∷◌, sym, refl, ◌∙◌, subst, inl, inr}
+use Rattle.std.proofs.Common.{◌≡◌, Bool, true, false, cond, not, ◌&&◌, ◌↔◌, List, [], ◌∷◌, sym, refl, subst, inl, inr}
 use mathlib.Core.Bool.{and-eq-true_iff, false≢true}
-use Rattle.port.specs.Limits.{In}
 use Rattle.plans.specs.Reach.{each}
 use Rattle.plans.proofs.Decide.{each_in}
 use Rattle.cases_plans.specs.Rows.{Row, Says, AllSay}

@@ -1,18 +1,16 @@
 -- The rows of sets.
-use Rattle.std.proofs.Common.{◌≡◌, ℕ, zero, suc, ◌<◌, Bool, true, false, not, ◌&&◌, ◌||◌, eqb, ltb, ◌↔◌, List, [], ◌∷◌, sym, refl, ap, ◌∙◌, subst, true≢false, arith, ltb-true, ne_eqb}
-use mathlib.Core.Bool.{and-eq-true_iff, false≢true}
+use Rattle.std.proofs.Common.{◌≡◌, ℕ, suc, ◌<◌, Bool, true, false, not, ◌&&◌, ◌||◌, eqb, ltb, ◌↔◌, sym, refl, ◌∙◌, true≢false, arith, ltb-true, ne_eqb}
+use mathlib.Core.Bool.{and-eq-true_iff}
 use Rattle.plans.specs.Flags.{every}
 use Rattle.plans.specs.Iterate.{Iterates, Stable}
-use Rattle.plans.specs.Reach.{Attainable, Steps, Member, Closed, each, steps, attains, serves, left}
-use Rattle.plans.specs.Simulation.{Domain, WellFormed, InRange, Holds, Serves}
+use Rattle.plans.specs.Reach.{Closed, each, steps, attains, serves, left}
+use Rattle.plans.specs.Simulation.{Domain, WellFormed, InRange}
 use Rattle.plans.proofs.Decide.{alike as agree, attains_iff, steps_iff, implies, serves_decided, serves_same}
 use Rattle.plans.proofs.Flags.{every_at, at_every}
-use Rattle.cases_plans.specs.Rows.{Row, Says, AllSay}
 use Rattle.cases_plans.specs.Basin.{moves, basin, jamming}
 use Rattle.cases_plans.specs.Sets.{Claim, attainable, steps_into, member, closed, stable, Means, rows, computed, iterations, SetsSay, ComputedSay, IterationsSay}
 use Rattle.cases_plans.proofs.Rows.{alike, right, all_say, ◌⨾◌, each_says}
 use Rattle.cases_plans.proofs.Values.{alike_iff, told, values_say}
-use Rattle.cases_plans.proofs.Tests.{within_decided}
 use Rattle.cases_plans.proofs.Kept.{formed_decided, pairwise, pairwise_iff}
 
 -- ── closed and stable sets ──

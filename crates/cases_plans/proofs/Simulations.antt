@@ -1,5 +1,5 @@
 -- The rows of simulations and ranks, by one test.
-use Rattle.std.proofs.Common.{◌≡◌, ℕ, Bool, true, ◌&&◌, eqb, ltb, ◌↔◌, refl, ltb-true}
+use Rattle.std.proofs.Common.{◌≡◌, ℕ, Bool, true, ◌&&◌, ltb, ◌↔◌, refl, ltb-true}
 use mathlib.Core.Bool.{and-eq-true_iff}
 use Rattle.plans.specs.Reach.{each, left}
 use Rattle.plans.specs.Reach as reach

@@ -1,9 +1,9 @@
 -- Tests that decide what is said of moves, plans and runs.
-use Rattle.std.proofs.Common.{◌≡◌, ℕ, ◌<◌, Bool, true, false, not, ◌&&◌, ◌||◌, eqb, ltb, ◌⊎◌, ◌↔◌, List, [], ◌∷◌, sym, refl, ap, ◌∙◌, subst, inl, inr, arith, eq-eqb, eqb-true, lt-ltb, ltb-true}
+use Rattle.std.proofs.Common.{◌≡◌, ℕ, ◌<◌, Bool, true, false, not, ◌&&◌, ◌||◌, eqb, ltb, ◌↔◌, List, [], ◌∷◌, sym, refl, ap, ◌∙◌, subst, eq-eqb, eqb-true, lt-ltb, ltb-true}
 use mathlib.Core.Bool.{and-eq-true_iff, false≢true}
 use Rattle.port.specs.Limits.{In}
 use Rattle.port.specs.declared.Move.{Move}
-use Rattle.plans.specs.Plans.{Plan, stop, work, Within, Can, Possible, IsRun, end, Works, Attains}
+use Rattle.plans.specs.Plans.{Plan, stop, work, Within, Can, Possible, IsRun, Works, Attains}
 use Rattle.plans.specs.Reach.{some, each}
 use Rattle.plans.proofs.Attain.{work_attains, stop_attains, after, works_kept}
 use Rattle.plans.proofs.Decide.{some_in, in_some, each_in, in_each, implies}

@@ -1,7 +1,6 @@
 -- One test for claims of values.
-use Rattle.std.proofs.Common.{◌≡◌, ℕ, Bool, true, false, ◌&&◌, eqb, ◌↔◌, List, [], ◌∷◌, Some, None, Option, sym, refl, ap, ◌∙◌, subst, ap₂, arith}
+use Rattle.std.proofs.Common.{◌≡◌, ℕ, Bool, true, false, ◌&&◌, eqb, ◌↔◌, List, [], ◌∷◌, Some, None, Option, sym, refl, ap, ap₂, arith}
 use mathlib.Core.Bool.{and-eq-true_iff, false≢true}
-use Rattle.port.specs.declared.Move.{Move}
 use Rattle.plans.specs.Reach.{each}
 use Rattle.cases_plans.specs.Rows.{Row, AllSay}
 use Rattle.cases_plans.specs.Values.{Claim, number, flag, numbers, place, price, transitions, Means}

@@ -1,5 +1,5 @@
 -- Tests that decide what is said of locks.
-use Rattle.std.proofs.Common.{◌≡◌, ℕ, zero, suc, ◌%◌, ◌<◌, ◌≤◌, Bool, true, false, not, ◌&&◌, ◌||◌, eqb, ltb, leb, ◌⊎◌, ◌↔◌, List, [], ◌∷◌, length, get_or, is_some, Some, None, Option, sym, refl, ap, ◌∙◌, subst, inl, inr, true≢false, arith, eq-eqb, eqb-true, ltb-true, lt-ltb, leb-true, le-leb}
+use Rattle.std.proofs.Common.{◌≡◌, ℕ, zero, suc, ◌%◌, ◌<◌, ◌≤◌, Bool, true, false, not, ◌&&◌, ◌||◌, eqb, ltb, leb, ◌⊎◌, ◌↔◌, List, length, get_or, is_some, Some, None, Option, sym, refl, subst, inl, inr, true≢false, arith, eq-eqb, eqb-true, ltb-true, lt-ltb, leb-true, le-leb}
 use mathlib.Core.Bool.{and-eq-true_iff, false≢true}
 use native.Mathlib.Decide.{dec_lt}
 use Rattle.port.specs.Limits.{In, Rise}
@@ -15,7 +15,7 @@ use Rattle.locks.specs.Targets.{Goes, GoesNth, GoesLeast, Nearest}
 use Rattle.locks.proofs.Outcomes.{outcome_in, outcome_of}
 use Rattle.locks.proofs.Standing.{place_is, place_none, possible_means, possible_there, told}
 use Rattle.cases_plans.proofs.Rows.{alike}
-use Rattle.cases_plans.proofs.Tests.{both, equal, below, possible_decided}
+use Rattle.cases_plans.proofs.Tests.{both, equal, below}
 use Rattle.cases_plans.proofs.Values.{alike_iff}
 
 pub at_most : (a b : ℕ) → (leb a b ≡ true) ↔ (a ≤ b)

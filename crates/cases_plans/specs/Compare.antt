@@ -1,5 +1,5 @@
 -- Examples of how costs are compared, with none where there is no cost.
-use Rattle.std.specs.Prelude.{ℕ, true, false, Some, None, List, [], ◌∷◌}
+use Rattle.std.specs.Prelude.{ℕ, true, Some, None, List, [], ◌∷◌}
 use Rattle.costs.specs.Compare.{shown, topped, either, under_of}
 use Rattle.costs.specs.Models.{count_list, minutes_model}
 use Rattle.cases_plans.specs.Rows.{Row, holds, fails, AllSay}

@@ -6,7 +6,7 @@ use Rattle.costs.specs.Models.{moves_model, minutes_model}
 use Rattle.cases_plans.specs.Rows.{Row, holds, fails, AllSay}
 use Rattle.cases_plans.specs.Values as values
 use Rattle.cases_plans.specs.Values.{numbers}
-use Rattle.cases_plans.specs.Basin.{move, lift, lower, stay, haul}
+use Rattle.cases_plans.specs.Basin.{move, lift, lower}
 
 -- ── laws, each broken by a model ──
 

@@ -1,5 +1,5 @@
 -- Examples of the domain that a port tells.
-use Rattle.std.specs.Prelude.{ℕ, true, false, List, [], ◌∷◌, length, codes}
+use Rattle.std.specs.Prelude.{true, false, List, [], ◌∷◌, length, codes}
 use Rattle.port.specs.Model.{Model, RequestModel}
 use Rattle.plans.specs.Domains.{holds_in, task_of, domain_of}
 use Rattle.cases_plans.specs.Rows.{Row, holds, fails, AllSay}

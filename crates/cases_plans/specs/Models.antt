@@ -1,10 +1,10 @@
 -- Examples of the two cost models.
-use Rattle.std.specs.Prelude.{ℕ, true, false, List, [], ◌∷◌}
+use Rattle.std.specs.Prelude.{ℕ, true, List, [], ◌∷◌}
 use Rattle.costs.specs.Models.{count_list, time_list, moves_model, minutes_model, lexb, Lex}
 use Rattle.cases_plans.specs.Rows.{Row, holds, fails, AllSay}
 use Rattle.cases_plans.specs.Values as values
 use Rattle.cases_plans.specs.Values.{number, flag, numbers}
-use Rattle.cases_plans.specs.Basin.{lift, haul}
+use Rattle.cases_plans.specs.Basin.{haul}
 
 abbrev pub rows : List (Row values.Claim)
 rows =

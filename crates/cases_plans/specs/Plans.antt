@@ -1,7 +1,7 @@
 -- Examples of the definitions of plans, over the moves of a small lock.
-use Rattle.std.specs.Prelude.{◌≡◌, ℕ, Bool, true, false, not, List, [], ◌∷◌, ◌==◌}
+use Rattle.std.specs.Prelude.{◌≡◌, ℕ, Bool, List, [], ◌∷◌}
 use Rattle.port.specs.declared.Move.{Move}
-use Rattle.plans.specs.Plans.{Plan, stop, work, Within, Can, Possible, IsRun, end, Works, Attains}
+use Rattle.plans.specs.Plans.{Plan, stop, Within, Can, Possible, IsRun, end, Works, Attains}
 use Rattle.cases_plans.specs.Rows.{Row, holds, fails, AllSay}
 use Rattle.cases_plans.specs.Basin.{move, lift, jam, haul, lower, stay, moves, lifting, hauling, up_and_down, try_and_lower, lift_and_lower, any, none, is, isnt}
 

@@ -1,12 +1,12 @@
 -- Examples of the sets that a program computes: what is attainable, what grows, what is left, and the iteration.
-use Rattle.std.specs.Prelude.{◌≡◌, ℕ, zero, suc, Bool, true, false, not, ◌&&◌, ◌||◌, ◌==◌, List, [], ◌∷◌}
+use Rattle.std.specs.Prelude.{ℕ, suc, Bool, true, false, ◌&&◌, ◌||◌, ◌==◌, List, [], ◌∷◌}
 use Rattle.plans.specs.Simulation.{Domain}
 use Rattle.plans.specs.Iterate.{Iterates, Stable, cut}
 use Rattle.plans.specs.Reach.{Attainable, Steps, Member, Closed, some, each, leads, steps, grown, attains, reached, aim, serves, left}
 use Rattle.cases_plans.specs.Rows.{Row, holds, fails, AllSay}
 use Rattle.cases_plans.specs.Values as values
 use Rattle.cases_plans.specs.Values.{flag}
-use Rattle.cases_plans.specs.Basin.{moves, any, none, is, isnt, raise, settle, basin, jamming, stranding, pair, among, everywhere}
+use Rattle.cases_plans.specs.Basin.{moves, any, none, is, isnt, raise, basin, jamming, stranding, pair, among, everywhere}
 
 -- ── what is said of sets ──
 

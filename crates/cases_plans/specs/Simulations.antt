@@ -3,7 +3,7 @@ use Rattle.std.specs.Prelude.{◌≡◌, ℕ, Bool, true, List, [], ◌∷◌}
 use Rattle.plans.specs.Plans.{Plan, stop}
 use Rattle.plans.specs.Simulation.{Task, Domain, WellFormed, Meets, EndsIn, Serves, InRange, Holds, Simulation, Kept, ServesRow, Rank}
 use Rattle.cases_plans.specs.Rows.{Row, holds, fails, AllSay}
-use Rattle.cases_plans.specs.Basin.{lift, jam, lifting, hauling, up_and_down, try_and_lower, any, none, is, isnt, raise, settle, strand, basin, jamming, stranding, Pair, pair, among, everywhere}
+use Rattle.cases_plans.specs.Basin.{jam, lifting, hauling, up_and_down, try_and_lower, none, is, isnt, raise, settle, basin, jamming, stranding, Pair, pair, among, everywhere}
 
 pub data Claim : Type 0 where
   well_formed : Domain → Claim
