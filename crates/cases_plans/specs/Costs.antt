@@ -48,17 +48,22 @@ falling = record moves_model { join = λ m a. (slice_index a 0 - 1) ∷ [] }
 abbrev pub free : Model
 free = record moves_model { join = λ m a. (slice_index a 0 + m.minutes) ∷ [] }
 
+-- Laws: a model for each law that it breaks
 abbrev pub lawful : List (Row Model)
 lawful =
     holds moves_model ∷
     holds minutes_model ∷
+    -- zero_sized, join_sized
     fails bare_zero ∷
     fails long_join ∷
+    -- total, chain, tie
     fails split ∷
     fails winding ∷
     fails blind ∷
+    -- least, keeps
     fails raised ∷
     fails jumping ∷
+    -- grows
     fails falling ∷
     fails free ∷
     []
@@ -66,6 +71,7 @@ lawful =
 abbrev pub LawfulSay : Type 0
 LawfulSay = AllSay Laws lawful
 
+-- WeakLaws: the same, with rises in the place of grows
 abbrev pub weak : List (Row Model)
 weak =
     holds moves_model ∷

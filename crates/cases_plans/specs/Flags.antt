@@ -57,13 +57,14 @@ readings =
     holds (flag (no_task.reach 0) false) ∷
     fails (number no_task.to 1) ∷
     fails (flag (no_task.reach 1) true) ∷
-    -- all_served: of the first tasks, those of the stage have the condition in their rows
+    -- all_served: of the first tasks, those of the stage have the condition in their rows; past the last, stage 0 asks for a row too
     holds (flag (all_served basin first_alone 2 0 0) true) ∷
     holds (flag (all_served basin first_alone 1 1 0) true) ∷
     holds (flag (all_served basin one_alone 2 1 1) true) ∷
     holds (flag (all_served basin one_alone 2 2 0) true) ∷
     fails (flag (all_served basin first_alone 2 1 0) true) ∷
     fails (flag (all_served basin one_alone 2 0 0) true) ∷
+    fails (flag (all_served basin first_alone 3 0 0) true) ∷
     []
 
 abbrev pub ReadingsSay : Type 0

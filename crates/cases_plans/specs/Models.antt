@@ -22,6 +22,7 @@ rows =
     holds (numbers moves_model.zero (0 ∷ [])) ∷
     holds (numbers (moves_model.join haul (4 ∷ [])) (5 ∷ [])) ∷
     holds (flag (moves_model.within (4 ∷ []) (4 ∷ [])) true) ∷
+    fails (number moves_model.columns 2) ∷
     fails (numbers moves_model.zero (1 ∷ [])) ∷
     fails (numbers (moves_model.join haul (4 ∷ [])) (13 ∷ [])) ∷
     fails (flag (moves_model.within (5 ∷ []) (4 ∷ [])) true) ∷
@@ -31,6 +32,7 @@ rows =
     holds (numbers (minutes_model.join haul (4 ∷ 1 ∷ [])) (13 ∷ 2 ∷ [])) ∷
     holds (flag (minutes_model.within (4 ∷ 9 ∷ []) (5 ∷ 1 ∷ [])) true) ∷
     holds (flag (minutes_model.within (4 ∷ 1 ∷ []) (4 ∷ 1 ∷ [])) true) ∷
+    fails (number minutes_model.columns 1) ∷
     fails (numbers minutes_model.zero (0 ∷ [])) ∷
     fails (numbers (minutes_model.join haul (4 ∷ 1 ∷ [])) (5 ∷ 10 ∷ [])) ∷
     fails (flag (minutes_model.within (5 ∷ 1 ∷ []) (4 ∷ 9 ∷ [])) true) ∷
