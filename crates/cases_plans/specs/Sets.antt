@@ -105,6 +105,7 @@ computed =
     fails (flag (attains 0 moves any (is 0) 1) true) ∷
     holds (flag (reached basin any (is 1) 0) true) ∷
     holds (flag (reached jamming any (isnt 0) 0) true) ∷
+    holds (flag (reached (record basin { stages = 0 }) any (is 1) 0) true) ∷
     fails (flag (reached jamming any (is 1) 0) true) ∷
     fails (flag (reached basin any (is 1) 2) true) ∷
     -- aim: the request's goal, where the set has the pair with its to-stage
