@@ -18,7 +18,7 @@ use Rattle.cases_words.proofs.Parts.{finds, here, is_here, here_is, is_part, par
 pub parts_hold : PartsHold
 unfolding finds
 parts_hold =
-    all_said _ (λ (r : PartRow). is_part 3 5 r.text r.part r.from r.to r.value) (λ (r : PartRow). r.stands)
+    all_said _ (λ (r : PartRow). is_part 3 5 r.text r.part r.from r.to r.value) (λ (r : PartRow). r.holds)
     (λ r. part_decided 3 5 r.text r.part r.from r.to r.value) parts refl
 
 place_decided : (t : List ℕ) (i b : ℕ) → Decides (here t i b) (Stands t i b)
@@ -26,12 +26,12 @@ place_decided t i b = (λ e. is_here t i b e, λ h. here_is t i b h.0 h.1)
 
 pub places_hold : PlacesHold
 places_hold =
-    all_said _ (λ (r : PlaceRow). here r.text r.place r.byte) (λ (r : PlaceRow). r.stands) (λ r. place_decided r.text r.place r.byte) places refl
+    all_said _ (λ (r : PlaceRow). here r.text r.place r.byte) (λ (r : PlaceRow). r.holds) (λ r. place_decided r.text r.place r.byte) places refl
 
 pub wholes_hold : WholesHold
 unfolding finds
 wholes_hold =
-    all_said _ (λ (r : WholeRow). is_part r.marks r.on r.text sum 0 (length r.text) r.value) (λ (r : WholeRow). r.stands)
+    all_said _ (λ (r : WholeRow). is_part r.marks r.on r.text sum 0 (length r.text) r.value) (λ (r : WholeRow). r.holds)
     (λ r. part_decided r.marks r.on r.text sum 0 (length r.text) r.value) wholes refl
 
 -- ── what a reader has read ──
@@ -73,7 +73,7 @@ read_decided sum t i v j = sum_read 3 5 t i v j
 pub read_parts_hold : ReadPartsHold
 unfolding finds
 read_parts_hold =
-    all_said _ (λ (r : PartRow). is_read r.part r.text r.from r.value r.to) (λ (r : PartRow). r.stands)
+    all_said _ (λ (r : PartRow). is_read r.part r.text r.from r.value r.to) (λ (r : PartRow). r.holds)
     (λ r. read_decided r.part r.text r.from r.value r.to) read_parts refl
 
 -- ── refusals, each for itself ──
@@ -95,7 +95,7 @@ closes_after_or (suc d) = refl
 pub refusals_hold : RefusalsHold
 unfolding goes step
 refusals_hold =
-    each_in (λ (r : RefusedRow). Said r.stands (Refused 2 r.text r.from r.place)) refusals (
+    each_in (λ (r : RefusedRow). Said r.holds (Refused 2 r.text r.from r.place)) refusals (
       record { on = omega arith; within = omega arith; went = ends_in_and },
       (
         record { on = omega arith; within = omega arith; went = nothing_left },
@@ -153,7 +153,7 @@ faulty_by n t p (stuck q) j =
 pub faulty_hold : FaultyHold
 unfolding verdict goes step
 faulty_hold =
-    all_said _ (λ (r : FaultyRow). is_stuck (verdict r.marks r.text) r.place) (λ (r : FaultyRow). r.stands)
+    all_said _ (λ (r : FaultyRow). is_stuck (verdict r.marks r.text) r.place) (λ (r : FaultyRow). r.holds)
     (λ r. faulty_by r.marks r.text r.place (verdict r.marks r.text) (grammatical r.marks r.text)) faulty refl
 
 pub unambiguous : Unambiguous

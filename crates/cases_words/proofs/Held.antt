@@ -13,7 +13,7 @@ use Rattle.port.specs.Valid.{Valid}
 use Rattle.reading.proofs.Limited.{in_map}
 use Rattle.cases_words.specs.Rows.{Said}
 use Rattle.cases_words.specs.Ports.{PortRow}
-use Rattle.cases_words.specs.Held.{held as rows, Kept, HeldHold, SameLimits}
+use Rattle.cases_words.specs.Held.{held as rows, HeldAs, HeldHold, SameLimits}
 use Rattle.cases_words.proofs.Rows.{all_said}
 use Rattle.cases_words.proofs.Ports.{valid, valid_decides}
 use Rattle.cases_words.proofs.Requests.{Held, held_as}
@@ -118,16 +118,16 @@ port_valid p =
 
 -- ── the rows ──
 
-valid_hold : (r : PortRow) → In r rows → Said r.stands (Valid r.port)
+valid_hold : (r : PortRow) → In r rows → Said r.holds (Valid r.port)
 unfolding verdict goes step
-valid_hold = all_said _ (λ (r : PortRow). valid r.port) (λ (r : PortRow). r.stands) (λ r. valid_decides r.port) rows refl
+valid_hold = all_said _ (λ (r : PortRow). valid r.port) (λ (r : PortRow). r.holds) (λ r. valid_decides r.port) rows refl
 
-kept : (stands : Bool) (m : Model) → Said stands (Valid m) → Kept stands m
-kept true m v = λ heap. (held_port heap m v, its_model heap m v)
-kept false m n = λ p e. n (subst Valid e (port_valid p))
+by_limits : (holds : Bool) (m : Model) → Said holds (Valid m) → HeldAs holds m
+by_limits true m v = λ heap. (held_port heap m v, its_model heap m v)
+by_limits false m n = λ p e. n (subst Valid e (port_valid p))
 
 pub held_hold : HeldHold
-held_hold r i = kept r.stands r.port (valid_hold r i)
+held_hold r i = by_limits r.holds r.port (valid_hold r i)
 
 pub same_limits : SameLimits
 same_limits = record { valid = port_valid; held = λ heap m v. (held_port heap m v, its_model heap m v) }

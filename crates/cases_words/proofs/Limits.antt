@@ -139,7 +139,7 @@ text_decides marks t =
 -- ── the rows ──
 
 pub members_hold : MembersHold
-members_hold = all_said _ (λ (r : InRow). is_in r.member r.list) (λ (r : InRow). r.stands) (λ r. in_decides r.member r.list) members refl
+members_hold = all_said _ (λ (r : InRow). is_in r.member r.list) (λ (r : InRow). r.holds) (λ r. in_decides r.member r.list) members refl
 
 abbrev pub move_code : Move → List ℕ
 move_code v = v.condition ∷ v.operation ∷ v.outcome ∷ v.minutes ∷ []
@@ -151,17 +151,17 @@ pub keys_shown : KeysShown
 keys_shown = all_shown (λ n. n ∷ []) keys refl refl
 
 pub marked_hold : MarkedHold
-marked_hold = all_said _ (λ (r : MarkedRow). all_marked r.marks r.conditions) (λ (r : MarkedRow). r.stands) (λ r. marked_decides r.marks r.conditions) marked refl
+marked_hold = all_said _ (λ (r : MarkedRow). all_marked r.marks r.conditions) (λ (r : MarkedRow). r.holds) (λ r. marked_decides r.marks r.conditions) marked refl
 
 pub rising_hold : RisingHold
-rising_hold = all_said _ (λ (r : RiseRow). climbs (λ (c : ℕ). c) 0 r.conditions) (λ (r : RiseRow). r.stands) (λ r. rise_decides r.conditions) rising refl
+rising_hold = all_said _ (λ (r : RiseRow). climbs (λ (c : ℕ). c) 0 r.conditions) (λ (r : RiseRow). r.holds) (λ r. rise_decides r.conditions) rising refl
 
 pub existing_hold : ExistingHold
-existing_hold = all_said _ (λ (r : MovesRow). each (exists 3 2) r.moves) (λ (r : MovesRow). r.stands) (λ r. moves_exist_decides 3 2 r.moves) existing refl
+existing_hold = all_said _ (λ (r : MovesRow). each (exists 3 2) r.moves) (λ (r : MovesRow). r.holds) (λ r. moves_exist_decides 3 2 r.moves) existing refl
 
 pub rising_moves_hold : RisingMovesHold
-rising_moves_hold = all_said _ (λ (r : MovesRow). climbs key no_move r.moves) (λ (r : MovesRow). r.stands) (λ r. moves_rise_decides r.moves) rising_moves refl
+rising_moves_hold = all_said _ (λ (r : MovesRow). climbs key no_move r.moves) (λ (r : MovesRow). r.holds) (λ r. moves_rise_decides r.moves) rising_moves refl
 
 pub texts_hold : TextsHold
 unfolding verdict goes step
-texts_hold = all_said _ (λ (r : TextRow). is_text r.marks r.text) (λ (r : TextRow). r.stands) (λ r. text_decides r.marks r.text) texts refl
+texts_hold = all_said _ (λ (r : TextRow). is_text r.marks r.text) (λ (r : TextRow). r.holds) (λ r. text_decides r.marks r.text) texts refl

@@ -153,8 +153,8 @@ valid_decides m = Decides-like (valid m) (made m) (taken m) (parts_decide m)
 
 pub ports_hold : PortsHold
 unfolding verdict goes step
-ports_hold = all_said _ (λ (r : PortRow). valid r.port) (λ (r : PortRow). r.stands) (λ r. valid_decides r.port) ports refl
+ports_hold = all_said _ (λ (r : PortRow). valid r.port) (λ (r : PortRow). r.holds) (λ r. valid_decides r.port) ports refl
 
 pub large_hold : LargeHold
 unfolding verdict goes step
-large_hold = all_said _ (λ (r : PortRow). valid r.port) (λ (r : PortRow). r.stands) (λ r. valid_decides r.port) large refl
+large_hold = all_said _ (λ (r : PortRow). valid r.port) (λ (r : PortRow). r.holds) (λ r. valid_decides r.port) large refl

@@ -81,7 +81,7 @@ entry_decides (move_entry v) = (λ e. tt, λ h. refl)
 entry_decides (request_entry w) = Decides-and (fits w.keep) (fits w.reach) (fits_decides w.keep) (fits_decides w.reach)
 
 pub sized_hold : SizedHold
-sized_hold = all_said _ (λ (r : SizedRow). entry_fits r.entry) (λ (r : SizedRow). r.stands) (λ r. entry_decides r.entry) sized refl
+sized_hold = all_said _ (λ (r : SizedRow). entry_fits r.entry) (λ (r : SizedRow). r.holds) (λ r. entry_decides r.entry) sized refl
 
 pub lengths_hold : LengthsHold
-lengths_hold = all_said _ (λ (r : LengthRow). fits r.text) (λ (r : LengthRow). r.stands) (λ r. fits_decides r.text) lengths refl
+lengths_hold = all_said _ (λ (r : LengthRow). fits r.text) (λ (r : LengthRow). r.holds) (λ r. fits_decides r.text) lengths refl

@@ -70,10 +70,10 @@ each_map test (q ∷ qs) = ap (λ b. test (request_model q) && b) (each_map test
 
 -- a test of models that decides what is said of requests
 module _ (test : RequestModel → Bool) (P : Request → Type 0) (decides : (q : Request) → Decides (test (request_model q)) (P q)) where
-  held_said : (ws : List RequestModel) (stands : Bool) → each test ws ≡ stands →
-      (qs : List Request) → map request_model qs ≡ ws → Said stands ((q : Request) → In q qs → P q)
-  held_said ws stands e qs m =
-      said (each (λ q. test (request_model q)) qs) stands (each_map test qs ∙ ap (each test) m ∙ e)
+  held_said : (ws : List RequestModel) (holds : Bool) → each test ws ≡ holds →
+      (qs : List Request) → map request_model qs ≡ ws → Said holds ((q : Request) → In q qs → P q)
+  held_said ws holds e qs m =
+      said (each (λ q. test (request_model q)) qs) holds (each_map test qs ∙ ap (each test) m ∙ e)
       (each_member (λ q. test (request_model q)) P decides qs)
 
 abbrev keep_test : RequestModel → Bool

@@ -13,14 +13,14 @@ same_answers f g [] e r i = absurd i
 same_answers f g (x ∷ xs) e r (inl q) = let h : f x ≡ g x = cc in ap f q ∙ h ∙ ap g (sym q)
 same_answers f g (x ∷ xs) e r (inr i) = let h : map f xs ≡ map g xs = cc in same_answers f g xs h r i
 
-pub said : {P : Type 0} (test stands : Bool) → test ≡ stands → Decides test P → Said stands P
+pub said : {P : Type 0} (test holds : Bool) → test ≡ holds → Decides test P → Said holds P
 said test true e d = d.0 e
 said test false e d = λ p. false≢true (sym e ∙ d.1 p)
 
 -- a test that decides what the rows say, and says of each what is told of it
-pub all_said : {A : Type 0} (P : A → Type 0) (test stands : A → Bool) → ((r : A) → Decides (test r) (P r)) →
-    (rows : List A) → map test rows ≡ map stands rows → (r : A) → In r rows → Said (stands r) (P r)
-all_said P test stands decides rows e r i = said (test r) (stands r) (same_answers test stands rows e r i) (decides r)
+pub all_said : {A : Type 0} (P : A → Type 0) (test holds : A → Bool) → ((r : A) → Decides (test r) (P r)) →
+    (rows : List A) → map test rows ≡ map holds rows → (r : A) → In r rows → Said (holds r) (P r)
+all_said P test holds decides rows e r i = said (test r) (holds r) (same_answers test holds rows e r i) (decides r)
 
 -- what is told by two values with other codes is not the same
 pub apart : {V : Type 0} (code : V → List ℕ) (a b : V) → same (code a) (code b) ≡ false → a ≡ b → ⊥

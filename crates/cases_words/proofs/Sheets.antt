@@ -41,7 +41,7 @@ bytes_decides (b ∷ s) = Decides-and (ltb b 256) (are_bytes s) (Decides-ltb b 2
 
 pub bytes_hold : BytesHold
 unfolding joined sheet_of
-bytes_hold = all_said _ (λ (r : BytesRow). are_bytes r.list) (λ (r : BytesRow). r.stands) (λ r. bytes_decides r.list) byte_lists refl
+bytes_hold = all_said _ (λ (r : BytesRow). are_bytes r.list) (λ (r : BytesRow). r.holds) (λ r. bytes_decides r.list) byte_lists refl
 
 abbrev read_code : Read → List ℕ
 read_code (held m) = 0 ∷ model_code m
@@ -69,7 +69,7 @@ only_decides t m b = go (valid m) refl
           subst (λ x. same x (sheet_of m) ≡ true) p (same_self (sheet_of m)),
     )
 
-all_only : map (λ (r : OnlyRow). is_only r.sheet r.port) onlies ≡ map (λ (r : OnlyRow). r.stands) onlies
+all_only : map (λ (r : OnlyRow). is_only r.sheet r.port) onlies ≡ map (λ (r : OnlyRow). r.holds) onlies
 unfolding joined sheet_of step goes verdict
 all_only = refl
 
@@ -83,8 +83,8 @@ implied false b e h = absurd (false≢true h)
 
 pub onlies_hold : OnliesHold
 onlies_hold r i =
-    said (is_only r.sheet r.port) r.stands
-    (same_answers (λ (r : OnlyRow). is_only r.sheet r.port) (λ (r : OnlyRow). r.stands) onlies all_only r i)
+    said (is_only r.sheet r.port) r.holds
+    (same_answers (λ (r : OnlyRow). is_only r.sheet r.port) (λ (r : OnlyRow). r.holds) onlies all_only r i)
     (only_decides r.sheet r.port
     (implied (valid r.port) (are_bytes (sheet_of r.port))
     (same_answers (λ (r : OnlyRow). not (valid r.port) || are_bytes (sheet_of r.port)) (λ (r : OnlyRow). true) onlies all_bytes r i)))
@@ -109,7 +109,7 @@ judged_decides n t (stuck k) = faulty_by n t k (verdict n t) (grammatical n t)
 pub judgements_hold : JudgementsHold
 unfolding verdict goes step
 judgements_hold =
-    all_said _ (λ (r : JudgedRow). is_judged (verdict r.marks r.text) r.verdict) (λ (r : JudgedRow). r.stands)
+    all_said _ (λ (r : JudgedRow). is_judged (verdict r.marks r.text) r.verdict) (λ (r : JudgedRow). r.holds)
     (λ r. judged_decides r.marks r.text r.verdict) judgements refl
 
 -- ── premises that are needed ──

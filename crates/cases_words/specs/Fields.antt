@@ -9,7 +9,7 @@ use Rattle.faults.specs.declared.layers.PortFault.TheVariants.{Record, Count, Mi
 use Rattle.port.specs.declared.Header.{Header}
 use Rattle.reading.specs.Reading.{Step, got, fault, and_then, provided, byte, bytes, number, field, minutes, text_length, whole_text, judged, text, same, denied, both, absent, rises, low_limit, high_limit, present, map_limit, count, start_stage, opening_bytes, opening, heading}
 use Rattle.cases_words.specs.Rows.{Row, gives, Shown}
-use Rattle.cases_words.specs.Limits.{denied as not_not}
+use Rattle.cases_words.specs.Limits.{not_not}
 use Rattle.cases_words.specs.Ports.{header}
 
 -- faults of the lower layers

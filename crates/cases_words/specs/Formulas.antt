@@ -11,11 +11,11 @@ pub record PartRow : Type 0 where
   pub from : ℕ
   pub to : ℕ
   pub value : Bool
-  pub stands : Bool
+  pub holds : Bool
 
 abbrev part_row : Bool → List ℕ → Part → ℕ → ℕ → Bool → PartRow
-part_row stands text part from to value =
-    record { text = text; part = part; from = from; to = to; value = value; stands = stands }
+part_row holds text part from to value =
+    record { text = text; part = part; from = from; to = to; value = value; holds = holds }
 
 abbrev good : List ℕ → Part → ℕ → ℕ → Bool → PartRow
 good = part_row true
@@ -49,27 +49,27 @@ parts =
     []
 
 abbrev pub PartsHold : Type 0
-PartsHold = (r : PartRow) → In r parts → Said r.stands (Formula 3 5 r.text r.part r.from r.to r.value)
+PartsHold = (r : PartRow) → In r parts → Said r.holds (Formula 3 5 r.text r.part r.from r.to r.value)
 
 -- a byte at a place of a text
 pub record PlaceRow : Type 0 where
   pub text : List ℕ
   pub place : ℕ
   pub byte : ℕ
-  pub stands : Bool
+  pub holds : Bool
 
 abbrev pub places : List PlaceRow
 places =
-    record { text = codes "ab"; place = 0; byte = 97; stands = true } ∷
-    record { text = codes "ab"; place = 1; byte = 98; stands = true } ∷
-    record { text = codes "ab"; place = 0; byte = 98; stands = false } ∷
+    record { text = codes "ab"; place = 0; byte = 97; holds = true } ∷
+    record { text = codes "ab"; place = 1; byte = 98; holds = true } ∷
+    record { text = codes "ab"; place = 0; byte = 98; holds = false } ∷
     -- past the end stands nothing, no 0 either
-    record { text = codes "ab"; place = 2; byte = 98; stands = false } ∷
-    record { text = codes "ab"; place = 2; byte = 0; stands = false } ∷
+    record { text = codes "ab"; place = 2; byte = 98; holds = false } ∷
+    record { text = codes "ab"; place = 2; byte = 0; holds = false } ∷
     []
 
 abbrev pub PlacesHold : Type 0
-PlacesHold = (r : PlaceRow) → In r places → Said r.stands (Stands r.text r.place r.byte)
+PlacesHold = (r : PlaceRow) → In r places → Said r.holds (Stands r.text r.place r.byte)
 
 -- a whole text over so many marks, on some of them, with a value
 pub record WholeRow : Type 0 where
@@ -77,10 +77,10 @@ pub record WholeRow : Type 0 where
   pub on : ℕ
   pub text : List ℕ
   pub value : Bool
-  pub stands : Bool
+  pub holds : Bool
 
 abbrev whole_row : Bool → ℕ → ℕ → List ℕ → Bool → WholeRow
-whole_row stands marks on text value = record { marks = marks; on = on; text = text; value = value; stands = stands }
+whole_row holds marks on text value = record { marks = marks; on = on; text = text; value = value; holds = holds }
 
 abbrev pub wholes : List WholeRow
 wholes =
@@ -99,7 +99,7 @@ wholes =
     []
 
 abbrev pub WholesHold : Type 0
-WholesHold = (r : WholeRow) → In r wholes → Said r.stands (Whole r.marks r.on r.text r.value)
+WholesHold = (r : WholeRow) → In r wholes → Said r.holds (Whole r.marks r.on r.text r.value)
 
 -- what a reader of such a part has read, over three marks, on a and c: the longest product, and the longest sum
 abbrev pub ReadAs : Part → List ℕ → ℕ → Bool → ℕ → Type 0
@@ -115,17 +115,17 @@ read_parts =
     []
 
 abbrev pub ReadPartsHold : Type 0
-ReadPartsHold = (r : PartRow) → In r read_parts → Said r.stands (ReadAs r.part r.text r.from r.value r.to)
+ReadPartsHold = (r : PartRow) → In r read_parts → Said r.holds (ReadAs r.part r.text r.from r.value r.to)
 
 -- over two marks, a text that is refused at a place, however many groups are open, where an atom has to come at an earlier one
 pub record RefusedRow : Type 0 where
   pub text : List ℕ
   pub from : ℕ
   pub place : ℕ
-  pub stands : Bool
+  pub holds : Bool
 
 abbrev refused_row : Bool → List ℕ → ℕ → ℕ → RefusedRow
-refused_row stands text from place = record { text = text; from = from; place = place; stands = stands }
+refused_row holds text from place = record { text = text; from = from; place = place; holds = holds }
 
 abbrev pub refusals : List RefusedRow
 refusals =
@@ -140,17 +140,17 @@ refusals =
     []
 
 abbrev pub RefusalsHold : Type 0
-RefusalsHold = (r : RefusedRow) → In r refusals → Said r.stands (Refused 2 r.text r.from r.place)
+RefusalsHold = (r : RefusedRow) → In r refusals → Said r.holds (Refused 2 r.text r.from r.place)
 
 -- a text over so many marks that is no formula, and a place
 pub record FaultyRow : Type 0 where
   pub marks : ℕ
   pub text : List ℕ
   pub place : ℕ
-  pub stands : Bool
+  pub holds : Bool
 
 abbrev faulty_row : Bool → ℕ → List ℕ → ℕ → FaultyRow
-faulty_row stands marks text place = record { marks = marks; text = text; place = place; stands = stands }
+faulty_row holds marks text place = record { marks = marks; text = text; place = place; holds = holds }
 
 abbrev pub faulty : List FaultyRow
 faulty =
@@ -174,7 +174,7 @@ faulty =
     []
 
 abbrev pub FaultyHold : Type 0
-FaultyHold = (r : FaultyRow) → In r faulty → Said r.stands (NoFormula r.marks r.text r.place)
+FaultyHold = (r : FaultyRow) → In r faulty → Said r.holds (NoFormula r.marks r.text r.place)
 
 -- and of all texts: there is at most one value on a set of marks, and at most one place where no formula goes on
 pub record Unambiguous : Type 0 where

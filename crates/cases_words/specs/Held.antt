@@ -9,14 +9,15 @@ use Rattle.cases_words.specs.Limits.{move}
 use Rattle.cases_words.specs.Ports.{header, request, port, conditions, moves, heads, go, back, quay, moved, PortRow, yes_is, no_is}
 
 -- with any allocator there is such a port; or there is none
-abbrev pub Kept : Bool → Model → Type 0
-Kept true m = (heap : Global) → (p : Port) × (model_of p ≡ m)
-Kept false m = (p : Port) → model_of p ≡ m → ⊥
+abbrev pub HeldAs : Bool → Model → Type 0
+HeldAs true m = (heap : Global) → (p : Port) × (model_of p ≡ m)
+HeldAs false m = (p : Port) → model_of p ≡ m → ⊥
 
 abbrev pub held : List PortRow
 held =
     yes_is first ∷ yes_is quay ∷ yes_is (moved []) ∷ yes_is (port heads conditions [] []) ∷
-    -- no marks, two start stages too many, no conditions, twice the same, an operation and a stage that there is not, no text
+    -- no marks; a start stage that there is not; no conditions; two that are the same; an operation that there is not; a stage;
+    -- an empty text; a text that is no formula
     no_is (port (header 0 1 1 0 0) (0 ∷ []) [] []) ∷
     no_is (port (header 2 2 2 3 2) conditions moves []) ∷
     no_is (port heads [] [] []) ∷
@@ -28,7 +29,7 @@ held =
     []
 
 abbrev pub HeldHold : Type 0
-HeldHold = (r : PortRow) → In r held → Kept r.stands r.port
+HeldHold = (r : PortRow) → In r held → HeldAs r.holds r.port
 
 -- and of all ports: what each holds is valid, and each valid port can be held
 pub record SameLimits : Type 0 where

@@ -11,18 +11,18 @@ move condition operation outcome minutes = record { condition = condition; opera
 pub record InRow : Type 0 where
   pub member : ℕ
   pub list : List ℕ
-  pub stands : Bool
+  pub holds : Bool
 
 abbrev pub members : List InRow
 members =
-    record { member = 5; list = 5 ∷ []; stands = true } ∷
-    record { member = 7; list = 5 ∷ 6 ∷ 7 ∷ []; stands = true } ∷
-    record { member = 6; list = 5 ∷ 7 ∷ []; stands = false } ∷
-    record { member = 0; list = []; stands = false } ∷
+    record { member = 5; list = 5 ∷ []; holds = true } ∷
+    record { member = 7; list = 5 ∷ 6 ∷ 7 ∷ []; holds = true } ∷
+    record { member = 6; list = 5 ∷ 7 ∷ []; holds = false } ∷
+    record { member = 0; list = []; holds = false } ∷
     []
 
 abbrev pub MembersHold : Type 0
-MembersHold = (r : InRow) → In r members → Said r.stands (In r.member r.list)
+MembersHold = (r : InRow) → In r members → Said r.holds (In r.member r.list)
 
 -- the move at a place, and zeros past the end
 abbrev pub moves_at : List (Row Move)
@@ -55,46 +55,46 @@ KeysShown = Shown keys
 pub record MarkedRow : Type 0 where
   pub marks : ℕ
   pub conditions : List ℕ
-  pub stands : Bool
+  pub holds : Bool
 
 abbrev pub marked : List MarkedRow
 marked =
-    record { marks = 2; conditions = 3 ∷ 0 ∷ []; stands = true } ∷
-    record { marks = 16; conditions = 65535 ∷ []; stands = true } ∷
-    record { marks = 0; conditions = 0 ∷ []; stands = true } ∷
-    record { marks = 2; conditions = 0 ∷ 4 ∷ []; stands = false } ∷
-    record { marks = 16; conditions = 65536 ∷ 0 ∷ []; stands = false } ∷
-    record { marks = 0; conditions = 1 ∷ []; stands = false } ∷
+    record { marks = 2; conditions = 3 ∷ 0 ∷ []; holds = true } ∷
+    record { marks = 16; conditions = 65535 ∷ []; holds = true } ∷
+    record { marks = 0; conditions = 0 ∷ []; holds = true } ∷
+    record { marks = 2; conditions = 0 ∷ 4 ∷ []; holds = false } ∷
+    record { marks = 16; conditions = 65536 ∷ 0 ∷ []; holds = false } ∷
+    record { marks = 0; conditions = 1 ∷ []; holds = false } ∷
     []
 
 abbrev pub MarkedHold : Type 0
-MarkedHold = (r : MarkedRow) → In r marked → Said r.stands (Marked r.marks r.conditions)
+MarkedHold = (r : MarkedRow) → In r marked → Said r.holds (Marked r.marks r.conditions)
 
 -- conditions that rise
 pub record RiseRow : Type 0 where
   pub conditions : List ℕ
-  pub stands : Bool
+  pub holds : Bool
 
 abbrev pub rising : List RiseRow
 rising =
-    record { conditions = []; stands = true } ∷
-    record { conditions = 4 ∷ []; stands = true } ∷
-    record { conditions = 0 ∷ 1 ∷ 5 ∷ []; stands = true } ∷
-    record { conditions = 0 ∷ 1 ∷ 1 ∷ []; stands = false } ∷
-    record { conditions = 3 ∷ 2 ∷ []; stands = false } ∷
-    record { conditions = 0 ∷ 5 ∷ 1 ∷ 6 ∷ []; stands = false } ∷
+    record { conditions = []; holds = true } ∷
+    record { conditions = 4 ∷ []; holds = true } ∷
+    record { conditions = 0 ∷ 1 ∷ 5 ∷ []; holds = true } ∷
+    record { conditions = 0 ∷ 1 ∷ 1 ∷ []; holds = false } ∷
+    record { conditions = 3 ∷ 2 ∷ []; holds = false } ∷
+    record { conditions = 0 ∷ 5 ∷ 1 ∷ 6 ∷ []; holds = false } ∷
     []
 
 abbrev pub RisingHold : Type 0
-RisingHold = (r : RiseRow) → In r rising → Said r.stands (Rise r.conditions)
+RisingHold = (r : RiseRow) → In r rising → Said r.holds (Rise r.conditions)
 
 -- with three conditions and two operations: whether what the moves name exists; and whether they rise
 pub record MovesRow : Type 0 where
   pub moves : List Move
-  pub stands : Bool
+  pub holds : Bool
 
 abbrev moves_row : Bool → List Move → MovesRow
-moves_row stands moves = record { moves = moves; stands = stands }
+moves_row holds moves = record { moves = moves; holds = holds }
 
 abbrev pub existing : List MovesRow
 existing =
@@ -106,7 +106,7 @@ existing =
     []
 
 abbrev pub ExistingHold : Type 0
-ExistingHold = (r : MovesRow) → In r existing → Said r.stands (MovesExist 3 2 r.moves)
+ExistingHold = (r : MovesRow) → In r existing → Said r.holds (MovesExist 3 2 r.moves)
 
 abbrev pub rising_moves : List MovesRow
 rising_moves =
@@ -120,31 +120,31 @@ rising_moves =
     []
 
 abbrev pub RisingMovesHold : Type 0
-RisingMovesHold = (r : MovesRow) → In r rising_moves → Said r.stands (MovesRise r.moves)
+RisingMovesHold = (r : MovesRow) → In r rising_moves → Said r.holds (MovesRise r.moves)
 
 -- twice as many bytes of negation in front of a text
-abbrev pub denied : ℕ → List ℕ → List ℕ
-denied zero text = text
-denied (suc n) text = 33 ∷ 33 ∷ denied n text
+abbrev pub not_not : ℕ → List ℕ → List ℕ
+not_not zero text = text
+not_not (suc n) text = 33 ∷ 33 ∷ not_not n text
 
 -- a text of a request, over so many marks
 pub record TextRow : Type 0 where
   pub marks : ℕ
   pub text : List ℕ
-  pub stands : Bool
+  pub holds : Bool
 
 abbrev pub texts : List TextRow
 texts =
-    record { marks = 1; text = codes "1"; stands = true } ∷
-    record { marks = 2; text = codes "a|!b"; stands = true } ∷
+    record { marks = 1; text = codes "1"; holds = true } ∷
+    record { marks = 2; text = codes "a|!b"; holds = true } ∷
     -- 63 bytes, and 64
-    record { marks = 1; text = denied 31 (codes "a"); stands = true } ∷
-    record { marks = 1; text = 33 ∷ denied 31 (codes "a"); stands = false } ∷
+    record { marks = 1; text = not_not 31 (codes "a"); holds = true } ∷
+    record { marks = 1; text = 33 ∷ not_not 31 (codes "a"); holds = false } ∷
     -- nothing, no formula, and a mark that there is not
-    record { marks = 1; text = []; stands = false } ∷
-    record { marks = 2; text = codes "a|"; stands = false } ∷
-    record { marks = 1; text = codes "a|!b"; stands = false } ∷
+    record { marks = 1; text = []; holds = false } ∷
+    record { marks = 2; text = codes "a|"; holds = false } ∷
+    record { marks = 1; text = codes "a|!b"; holds = false } ∷
     []
 
 abbrev pub TextsHold : Type 0
-TextsHold = (r : TextRow) → In r texts → Said r.stands (TextOk r.marks r.text)
+TextsHold = (r : TextRow) → In r texts → Said r.holds (TextOk r.marks r.text)

@@ -6,7 +6,7 @@ use Rattle.port.specs.Limits.{In}
 use Rattle.port.specs.Model.{Model, RequestModel, first}
 use Rattle.port.specs.Valid.{Valid}
 use Rattle.cases_words.specs.Rows.{Said}
-use Rattle.cases_words.specs.Limits.{move, denied}
+use Rattle.cases_words.specs.Limits.{move, not_not}
 
 abbrev pub header : ℕ → ℕ → ℕ → ℕ → ℕ → Header
 header marks operations stages stage condition =
@@ -68,13 +68,13 @@ many_moves n = port (header 8 32 1 0 255) (numbers 256) (map (λ i. move 0 (i / 
 
 pub record PortRow : Type 0 where
   pub port : Model
-  pub stands : Bool
+  pub holds : Bool
 
 abbrev pub yes_is : Model → PortRow
-yes_is m = record { port = m; stands = true }
+yes_is m = record { port = m; holds = true }
 
 abbrev pub no_is : Model → PortRow
-no_is m = record { port = m; stands = false }
+no_is m = record { port = m; holds = false }
 
 abbrev pub ports : List PortRow
 ports =
@@ -104,18 +104,18 @@ ports =
     yes_is (asked (request 4 4 (codes "1") (codes "1") ∷ [])) ∷
     no_is (asked (go ∷ request 5 0 (codes "1") (codes "a") ∷ [])) ∷ no_is (asked (go ∷ request 0 5 (codes "1") (codes "a") ∷ [])) ∷
     -- whose texts are formulas of 1 to 63 bytes
-    yes_is (asked (request 0 1 (denied 31 (codes "a")) (denied 31 (codes "b")) ∷ [])) ∷
-    no_is (asked (request 0 1 (33 ∷ denied 31 (codes "a")) (codes "a") ∷ [])) ∷ no_is (asked (request 0 1 (codes "1") (33 ∷ denied 31 (codes "a")) ∷ [])) ∷
+    yes_is (asked (request 0 1 (not_not 31 (codes "a")) (not_not 31 (codes "b")) ∷ [])) ∷
+    no_is (asked (request 0 1 (33 ∷ not_not 31 (codes "a")) (codes "a") ∷ [])) ∷ no_is (asked (request 0 1 (codes "1") (33 ∷ not_not 31 (codes "a")) ∷ [])) ∷
     no_is (asked (request 0 1 [] (codes "a") ∷ [])) ∷ no_is (asked (request 0 1 (codes "1") [] ∷ [])) ∷
     no_is (asked (request 0 1 (codes "a&") (codes "a") ∷ [])) ∷ no_is (asked (request 0 1 (codes "1") (codes "c") ∷ [])) ∷
     []
 
 abbrev pub PortsHold : Type 0
-PortsHold = (r : PortRow) → In r ports → Said r.stands (Valid r.port)
+PortsHold = (r : PortRow) → In r ports → Said r.holds (Valid r.port)
 
 -- at most 4096 moves
 abbrev pub large : List PortRow
 large = yes_is (many_moves 4096) ∷ no_is (many_moves 4097) ∷ []
 
 abbrev pub LargeHold : Type 0
-LargeHold = (r : PortRow) → In r large → Said r.stands (Valid r.port)
+LargeHold = (r : PortRow) → In r large → Said r.holds (Valid r.port)

@@ -8,7 +8,7 @@ use Rattle.port.specs.Limits.{In}
 use Rattle.port.specs.Model.{Model, RequestModel}
 use Rattle.reading.specs.Reading.{Step, got, fault, condition, move as move_read, request as request_read, none, follows, room, Head, admitted, head, body, Entry, condition_entry, move_entry, request_entry, entry, Sized, EntrySized, empty, add}
 use Rattle.cases_words.specs.Rows.{Said, Row, gives, Shown}
-use Rattle.cases_words.specs.Limits.{move, denied}
+use Rattle.cases_words.specs.Limits.{move, not_not}
 use Rattle.cases_words.specs.Ports.{header, request, port, numbers, repeated, go, many_moves}
 use Rattle.cases_words.specs.Fields.{ends, absent_at, no_formula}
 
@@ -171,37 +171,37 @@ grown =
 -- records whose texts have 1 to 63 bytes
 pub record SizedRow : Type 0 where
   pub entry : Entry
-  pub stands : Bool
+  pub holds : Bool
 
 abbrev pub sized : List SizedRow
 sized =
-    record { entry = condition_entry 70000; stands = true } ∷
-    record { entry = move_entry (move 0 0 0 70000); stands = true } ∷
-    record { entry = request_entry (request 0 0 (codes "(") (denied 31 (codes "a"))); stands = true } ∷
-    record { entry = request_entry (request 0 0 [] (codes "a")); stands = false } ∷
-    record { entry = request_entry (request 0 0 (codes "a") []); stands = false } ∷
-    record { entry = request_entry (request 0 0 (33 ∷ denied 31 (codes "a")) (codes "a")); stands = false } ∷
-    record { entry = request_entry (request 0 0 (codes "a") (33 ∷ denied 31 (codes "a"))); stands = false } ∷
+    record { entry = condition_entry 70000; holds = true } ∷
+    record { entry = move_entry (move 0 0 0 70000); holds = true } ∷
+    record { entry = request_entry (request 0 0 (codes "(") (not_not 31 (codes "a"))); holds = true } ∷
+    record { entry = request_entry (request 0 0 [] (codes "a")); holds = false } ∷
+    record { entry = request_entry (request 0 0 (codes "a") []); holds = false } ∷
+    record { entry = request_entry (request 0 0 (33 ∷ not_not 31 (codes "a")) (codes "a")); holds = false } ∷
+    record { entry = request_entry (request 0 0 (codes "a") (33 ∷ not_not 31 (codes "a"))); holds = false } ∷
     []
 
 abbrev pub SizedHold : Type 0
-SizedHold = (r : SizedRow) → In r sized → Said r.stands (EntrySized r.entry)
+SizedHold = (r : SizedRow) → In r sized → Said r.holds (EntrySized r.entry)
 
 -- and the same of a text
 pub record LengthRow : Type 0 where
   pub text : List ℕ
-  pub stands : Bool
+  pub holds : Bool
 
 abbrev pub lengths : List LengthRow
 lengths =
-    record { text = codes "("; stands = true } ∷
-    record { text = denied 31 (codes "a"); stands = true } ∷
-    record { text = []; stands = false } ∷
-    record { text = denied 32 []; stands = false } ∷
+    record { text = codes "("; holds = true } ∷
+    record { text = not_not 31 (codes "a"); holds = true } ∷
+    record { text = []; holds = false } ∷
+    record { text = not_not 32 []; holds = false } ∷
     []
 
 abbrev pub LengthsHold : Type 0
-LengthsHold = (r : LengthRow) → In r lengths → Said r.stands (Sized r.text)
+LengthsHold = (r : LengthRow) → In r lengths → Said r.holds (Sized r.text)
 
 abbrev pub ConditionsShown : Type 0
 ConditionsShown = Shown conditions

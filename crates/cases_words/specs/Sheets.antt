@@ -70,21 +70,21 @@ map_bits =
 
 pub record BytesRow : Type 0 where
   pub list : List ℕ
-  pub stands : Bool
+  pub holds : Bool
 
 abbrev pub byte_lists : List BytesRow
 byte_lists =
-    record { list = []; stands = true } ∷
-    record { list = 0 ∷ 255 ∷ []; stands = true } ∷
-    record { list = sheet_of quay; stands = true } ∷
-    record { list = 256 ∷ []; stands = false } ∷
-    record { list = 0 ∷ 300 ∷ 1 ∷ []; stands = false } ∷
+    record { list = []; holds = true } ∷
+    record { list = 0 ∷ 255 ∷ []; holds = true } ∷
+    record { list = sheet_of quay; holds = true } ∷
+    record { list = 256 ∷ []; holds = false } ∷
+    record { list = 0 ∷ 300 ∷ 1 ∷ []; holds = false } ∷
     -- a valid port whose minutes are no two bytes: no port in memory has them, but validity does not say so
-    record { list = sheet_of (moved (move 0 0 1 65536 ∷ [])); stands = false } ∷
+    record { list = sheet_of (moved (move 0 0 1 65536 ∷ [])); holds = false } ∷
     []
 
 abbrev pub BytesHold : Type 0
-BytesHold = (r : BytesRow) → In r byte_lists → Said r.stands (Bytes r.list)
+BytesHold = (r : BytesRow) → In r byte_lists → Said r.holds (Bytes r.list)
 
 -- ── how a sheet is read ──
 
@@ -129,30 +129,30 @@ reads =
 pub record OnlyRow : Type 0 where
   pub sheet : List ℕ
   pub port : Model
-  pub stands : Bool
+  pub holds : Bool
 
 abbrev pub onlies : List OnlyRow
 onlies =
-    record { sheet = quay_sheet; port = quay; stands = true } ∷
-    record { sheet = sheet_of first; port = first; stands = true } ∷
-    record { sheet = quay_sheet; port = first; stands = false } ∷
-    record { sheet = take 17 quay_sheet; port = quay; stands = false } ∷
+    record { sheet = quay_sheet; port = quay; holds = true } ∷
+    record { sheet = sheet_of first; port = first; holds = true } ∷
+    record { sheet = quay_sheet; port = first; holds = false } ∷
+    record { sheet = take 17 quay_sheet; port = quay; holds = false } ∷
     -- of a port that no sheet tells, none does but any
-    record { sheet = quay_sheet; port = port heads [] [] []; stands = true } ∷
+    record { sheet = quay_sheet; port = port heads [] [] []; holds = true } ∷
     []
 
 abbrev pub OnliesHold : Type 0
-OnliesHold = (r : OnlyRow) → In r onlies → Said r.stands (Only r.sheet r.port)
+OnliesHold = (r : OnlyRow) → In r onlies → Said r.holds (Only r.sheet r.port)
 
 -- a text over so many marks, and what a reading may say of it
 pub record JudgedRow : Type 0 where
   pub marks : ℕ
   pub text : List ℕ
   pub verdict : Verdict
-  pub stands : Bool
+  pub holds : Bool
 
 abbrev judged_row : Bool → ℕ → List ℕ → Verdict → JudgedRow
-judged_row stands marks text verdict = record { marks = marks; text = text; verdict = verdict; stands = stands }
+judged_row holds marks text verdict = record { marks = marks; text = text; verdict = verdict; holds = holds }
 
 abbrev pub judgements : List JudgedRow
 judgements =
@@ -166,7 +166,7 @@ judgements =
     []
 
 abbrev pub JudgementsHold : Type 0
-JudgementsHold = (r : JudgedRow) → In r judgements → Said r.stands (Judged r.marks r.text r.verdict)
+JudgementsHold = (r : JudgedRow) → In r judgements → Said r.holds (Judged r.marks r.text r.verdict)
 
 -- Without their premises the theorems on sheets would be false: there are numbers that are no bytes and still tell a port, whose
 -- sheet they are not; there are ports that are not valid and whose sheet does not tell them.
