@@ -40,7 +40,7 @@ lookups =
     -- fits: the move's condition and operation
     holds (flag (fits 0 1 haul) true) ∷
     holds (flag (fits 2 0 stay) true) ∷
-    fails (flag (fits 1 0 haul) true) ∷
+    fails (flag (fits 1 1 haul) true) ∷
     fails (flag (fits 0 0 haul) true) ∷
     -- possible: some move fits
     holds (flag (possible moves 0 1) true) ∷

@@ -2,6 +2,7 @@
 use Rattle.std.specs.Prelude.{◌≡◌, ℕ, Bool, List, Option}
 use Rattle.port.specs.declared.Move.{Move}
 
+-- a number or a flag; a list of numbers; a place or a price, where there is one; a list of moves
 pub data Claim : Type 0 where
   number : (found told : ℕ) → Claim
   flag : (found told : Bool) → Claim
