@@ -1,0 +1,17 @@
+pub mod Rows
+pub mod Tests
+pub mod Values
+pub mod Tables
+pub mod Plans
+pub mod Rights
+pub mod Policies
+pub mod Calls
+pub mod Errands
+pub mod Takes
+pub mod Histories
+pub mod Solving
+pub mod Promises
+pub mod Worked
+pub mod Decisions
+pub mod Controls
+pub mod Answers

@@ -1,0 +1,12 @@
+pub mod Rows
+pub mod Values
+pub mod Sluice
+pub mod Tables
+pub mod Policies
+pub mod Solving
+pub mod Calls
+pub mod Errands
+pub mod Histories
+pub mod Promises
+pub mod Controls
+pub mod Answers
