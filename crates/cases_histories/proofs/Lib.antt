@@ -15,3 +15,4 @@ pub mod Worked
 pub mod Decisions
 pub mod Controls
 pub mod Answers
+pub mod Outings

@@ -137,7 +137,7 @@ promises_say = all_say Means decides test decided rows all_right
 -- ── histories ──
 
 -- every history from an accepted opening has the promise
-from_start : (s c : ℕ) → s < 4 → Opens w s (Some c) → Promised w (start_at s (Some c))
+pub from_start : (s c : ℕ) → s < 4 → Opens w s (Some c) → Promised w (start_at s (Some c))
 from_start s c l o = promise_holds w minutes_laws formed own_solved s (Some c) l o
 
 nowhere : Promise w [] (at 3 None None) → ⊥

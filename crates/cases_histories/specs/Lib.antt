@@ -10,3 +10,4 @@ pub mod Histories
 pub mod Promises
 pub mod Controls
 pub mod Answers
+pub mod Outings

@@ -7,6 +7,7 @@ ghost use Rattle.cases_histories.specs.Calls.{CallsSay};
 ghost use Rattle.cases_histories.specs.Controls.{ControlsSay, NumberedSay};
 ghost use Rattle.cases_histories.specs.Errands.{ErrandsSay};
 ghost use Rattle.cases_histories.specs.Histories.{HistoriesSay};
+ghost use Rattle.cases_histories.specs.Outings.{CoursesSay, ErrorsSay, LogsSay};
 ghost use Rattle.cases_histories.specs.Policies.{PoliciesSay};
 ghost use Rattle.cases_histories.specs.Promises.{BeginningsSay, LivesSay, PromisesSay};
 ghost use Rattle.cases_histories.specs.Solving.{SolvingSay};
@@ -92,6 +93,27 @@ pub fn answers_stand() -> bool
 // What a controller decides and does.
 pub fn controls_stand() -> bool
     ensures { ControlsSay }
+{
+    true
+}
+
+// Calls one after another over a lock, and answers that stand for those of a history.
+pub fn courses_stand() -> bool
+    ensures { CoursesSay }
+{
+    true
+}
+
+// What is printed where an outing has no log.
+pub fn errors_stand() -> bool
+    ensures { ErrorsSay }
+{
+    true
+}
+
+// The logs of outings.
+pub fn logs_stand() -> bool
+    ensures { LogsSay }
 {
     true
 }
