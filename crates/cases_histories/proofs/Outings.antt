@@ -1,5 +1,5 @@
 -- The rows of outings: of courses by one test, of logs each by its own.
-use Rattle.std.proofs.Common.{◌≡◌, ℕ, ◌<◌, Bool, true, false, cond, not, ◌&&◌, eqb, ltb, ◌↔◌, List, [], ◌∷◌, map, Some, None, Ok, Err, Option, sym, refl, ap, ◌∙◌, subst, inl, inr, arith}
+use Rattle.std.proofs.Common.{◌≡◌, ℕ, ◌<◌, Bool, true, false, cond, not, ◌&&◌, eqb, ltb, ◌↔◌, List, [], ◌∷◌, map, Some, None, Ok, Err, Option, sym, refl, ap, ◌∙◌, subst, arith}
 use Rattle.std.specs.Fmt.{digits}
 use mathlib.Core.Bool.{false≢true}
 use Rattle.port.specs.Model.{Model, first}
@@ -8,30 +8,30 @@ use Rattle.plans.specs.Flags.{rank_at}
 use Rattle.plans.specs.Reach.{each}
 use Rattle.plans.specs.Simulation.{Domain, WellFormed, InRange, Rank}
 use Rattle.costs.specs.Costs.{Model as CostsOf}
-use Rattle.costs.specs.Models.{moves_model, minutes_model, minutes_laws}
+use Rattle.costs.specs.Models.{minutes_model, minutes_laws}
 use Rattle.solver.specs.Policy.{World, Solved}
 use Rattle.solver.proofs.KeptSets.{kept_largest, kept_simulates}
 use Rattle.histories.specs.declared.Command.{Command}
-use Rattle.histories.specs.declared.Command.TheVariants.{Quote, Ask, Step, Close}
-use Rattle.histories.specs.Calls.{At, Event, History, refused, refusal, open_rules, start_at}
+use Rattle.histories.specs.declared.Command.TheVariants.{Quote, Ask}
+use Rattle.histories.specs.Calls.{At, Event, History, Took, quoted, refused, refusal, open_rules, start_at}
+use Rattle.histories.specs.Calls.{Answer as Answered}
 use Rattle.histories.specs.Promise.{Promised, Opening}
 use Rattle.histories.proofs.Basics.{some_inj, some_none}
 use Rattle.histories.proofs.Holds.{promise_holds, opening_holds}
-use Rattle.control.specs.declared.answer.Reply.TheVariants.{Quoted, Granted, Worked, Closed}
-use Rattle.control.specs.declared.refusal.Refusal.TheVariants.{AlreadyOut, NotOffered, NoCondition, Dropped, Stuck}
-use Rattle.control.specs.declared.tour.OutingError.TheVariants.{Refused, Memory}
+use Rattle.control.specs.declared.answer.Reply.TheVariants.{Quoted, Granted}
+use Rattle.control.specs.declared.refusal.Refusal.TheVariants.{NotOffered}
 use Rattle.control.specs.States.{Answer, State, state, Does, Shows}
-use Rattle.control.specs.Outings.{Turn, Course, Logged, ShowsAll, Outed, Ready, Told, Barred, Failed}
-use Rattle.cases_histories.specs.Sluice.{two, w, as_given, port}
+use Rattle.control.specs.Outings.{Turn, Course, Logged, ShowsAll, Outed, Ready, Told}
+use Rattle.cases_histories.specs.Sluice.{two, nought, w, as_given, port}
 use Rattle.cases_histories.specs.Calls.{at}
 use Rattle.cases_histories.specs.Errands.{event, leaving}
 use Rattle.cases_histories.specs.Controls.{marks}
-use Rattle.cases_histories.specs.Outings.{turn, Claim, course, shows_all, Means, answers, rows, CoursesSay, errors, ErrorsSay, alone, Log, logged, outed, ready, told, failed, Tells, asked, logs, LogsSay}
+use Rattle.cases_histories.specs.Outings.{turn, Claim, course, shows_all, Means, answers, rows, CoursesSay, errors, ErrorsSay, alone, Tells, logs, LogsSay}
 use Rattle.cases_histories.proofs.Rows.{right, all_say, ◌⨾◌, each_says}
 use Rattle.cases_histories.proofs.Values as values
 use Rattle.cases_histories.proofs.Tests.{both}
-use Rattle.cases_histories.proofs.Takes.{three, history_decided}
-use Rattle.cases_histories.proofs.Plans.{formed_well, pairwise, pairwise_iff, rank_test, rank_decided}
+use Rattle.cases_histories.proofs.Takes.{three, took_decided, history_decided}
+use Rattle.cases_histories.proofs.Plans.{formed_well, pairwise_iff, rank_test, rank_decided}
 use Rattle.cases_histories.proofs.Promises.{from_start}
 use Rattle.cases_histories.proofs.Decisions.{same_state, states_tell, does_test, does_decided, shows_test, shows_decided}
 
@@ -142,6 +142,24 @@ elsewhere o =
     let e = no_events w (start_at 0 (Some 0)) o.end o.history o.asked o.chained in
     let z : ◌≡◌ {A = ℕ} 0 1 = some_inj (sym (ap (λ (x : At). x.place) e) ∙ o.ends) in
     omega arith
+
+abbrev first_of : List Command → Command
+first_of [] = Quote 0
+first_of (k ∷ ks) = k
+
+-- the first call of a history is not answered by a quote that is not the policy's
+mistold : Outed as_given w 0 (Some 0) (Some 0) (Quote 0 ∷ []) (Ok (Quoted nought) ∷ []) → ⊥
+mistold o = go o.history o.end o.asked o.answered o.chained
+  where
+    no_such : (b : At) → Took w (start_at 0 (Some 0)) (Quote 0) (quoted nought) b → ⊥
+    no_such b t = false≢true ((took_decided w (start_at 0 (Some 0)) (Quote 0) (quoted nought) b).1 t)
+
+    go : (h : List Event) (b : At) → map (λ (x : Event). x.command) h ≡ Quote 0 ∷ [] → ShowsAll as_given (Ok (Quoted nought) ∷ []) h →
+        History w (start_at 0 (Some 0)) h b → ⊥
+    go [] b e s c = s
+    go (x ∷ h) b e s c =
+        no_such x.after (subst (λ (k : Command). Took w (start_at 0 (Some 0)) k (quoted nought) x.after) (ap first_of e)
+        (subst (λ (r : Answered). Took w (start_at 0 (Some 0)) x.command r x.after) s.0 c.1))
 
 -- ── the port before any load ──
 
@@ -275,6 +293,7 @@ logs_say = each_says Tells logs (
       promise = from_start 0 0 (omega arith) refl [] (start_at 0 (Some 0)) refl;
     }
     ⨾ elsewhere
+    ⨾ mistold
     ⨾ (λ o. quiet [] o.history (Ask 0) [] o.asked o.answered)
     ⨾ (λ o. chatty o.history (Err NotOffered) [] o.asked o.answered)
     ⨾ alone_ready

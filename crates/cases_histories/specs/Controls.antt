@@ -157,7 +157,10 @@ rows =
     holds (ruled (at 2 (Some 2) (Some 0)) (Close 2) (Ok (Closed 1))) ∷
     holds (ruled (at 0 (Some 0) (Some 0)) (Ask 0) (Err AlreadyOut)) ∷
     fails (ruled (at 0 None (Some 0)) (Quote 0) (Ok (Granted (two 3 1)))) ∷
+    fails (ruled (at 0 None (Some 0)) (Quote 1) (Ok (Quoted nought))) ∷
     fails (ruled (at 0 None (Some 0)) (Ask 0) (Ok (Granted nought))) ∷
+    fails (ruled (at 0 (Some 0) (Some 0)) (Ask 0) (Ok (Granted (two 3 1)))) ∷
+    fails (ruled (at 0 None (Some 0)) (Step 0) (Ok (Worked 1))) ∷
     fails (ruled (at 0 (Some 0) (Some 0)) (Step 0) (Ok (Worked 2))) ∷
     fails (ruled (at 0 (Some 0) (Some 0)) (Close 0) (Ok (Closed 0))) ∷
     fails (ruled (at 2 (Some 2) (Some 0)) (Close 2) (Ok (Closed 2))) ∷
@@ -175,7 +178,10 @@ rows =
     holds (does port idle (Ask 0) (Ok (Granted (two 3 1))) low) ∷
     fails (does port idle (Quote 0) (Ok (Quoted nought)) idle) ∷
     fails (does port idle (Quote 0) (Ok (Quoted (two 3 1))) low) ∷
+    fails (does port idle (Quote 1) (Ok (Quoted nought)) idle) ∷
     fails (does port idle (Ask 0) (Ok (Granted (two 3 1))) idle) ∷
+    fails (does port low (Ask 0) (Ok (Granted (two 3 1))) low) ∷
+    fails (does port idle (Ask 0) (Ok (Granted nought)) low) ∷
     fails (does port idle (Quote 0) (Ok (Granted (two 3 1))) low) ∷
     -- worked: by the lock's own port, whose marks for the outcome they are
     holds (does port low (Step 0) (Ok (Worked 1)) high) ∷
@@ -185,6 +191,8 @@ rows =
     fails (does lifts_high low (Step 0) (Ok (Worked 1)) high) ∷
     fails (does no_lift low (Step 0) (Ok (Worked 1)) high) ∷
     fails (does port low (Step 0) (Ok (Worked 1)) (state 0 None 1)) ∷
+    fails (does port low (Step 0) (Ok (Worked 1)) (state 1 (Some 0) 1)) ∷
+    fails (does port idle (Step 0) (Ok (Worked 1)) (state 0 None 1)) ∷
     -- closed
     holds (does port high (Close 0) (Ok (Closed 0)) (state 0 None 1)) ∷
     holds (does port (state 2 (Some 2) 0) (Close 2) (Ok (Closed 1)) (state 1 None 0)) ∷

@@ -78,6 +78,9 @@ rows =
     fails (took filling low (Step 0) (worked flood) high) ∷
     fails (took w low (Step 0) (worked (move 0 1 1 4)) high) ∷
     fails (took w high (Step 0) (worked lift) high) ∷
+    fails (took w idle (Step 0) (worked lift) (at 0 None (Some 1))) ∷
+    fails (took w low (Step 0) (worked lift) (at 0 None (Some 1))) ∷
+    fails (took w low (Step 0) (worked lift) (at 1 (Some 0) (Some 1))) ∷
     fails (took astray low (Step 0) (worked (move 0 7 1 3)) high) ∷
     -- closed: on to the request's to-stage, with no grant out, and the lock stays
     holds (took w high (Close 0) (closed 0) (at 0 None (Some 1))) ∷

@@ -13,7 +13,7 @@ use Rattle.control.specs.declared.refusal.Refusal.TheVariants.{AlreadyOut, NotOf
 use Rattle.control.specs.declared.tour.OutingError.{OutingError}
 use Rattle.control.specs.declared.tour.OutingError.TheVariants.{Refused, Memory}
 use Rattle.control.specs.States.{Answer, State, state}
-use Rattle.control.specs.Outings.{Turn, Course, Logged, ShowsAll, Outed, Ready, Told, Barred, Failed, outing_error_text}
+use Rattle.control.specs.Outings.{Turn, Course, Logged, ShowsAll, Outed, Ready, Told, Failed, outing_error_text}
 use Rattle.cases_histories.specs.Rows.{Row, holds, fails, AllSay}
 use Rattle.cases_histories.specs.Values as values
 use Rattle.cases_histories.specs.Values.{numbers}
@@ -122,6 +122,7 @@ logs =
     holds (outed (Some 1) asked answers) ∷
     holds (outed (Some 0) [] []) ∷
     fails (outed (Some 1) [] []) ∷
+    fails (outed (Some 0) (Quote 0 ∷ []) (Ok (Quoted nought) ∷ [])) ∷
     fails (outed (Some 0) (Ask 0 ∷ []) []) ∷
     fails (outed (Some 0) [] (Err NotOffered ∷ [])) ∷
     -- Ready: the port's domain, the cost model, and a solved policy

@@ -60,6 +60,9 @@ settling = Here ∷ NoChoice ∷ NoChoice ∷ []
 abbrev all : List (Choice (List ℕ))
 all = Choose 1 (two 3 1) ∷ Here ∷ Here ∷ Here ∷ NoChoice ∷ NoChoice ∷ Here ∷ NoChoice ∷ NoChoice ∷ []
 
+abbrev more : List (Choice (List ℕ))
+more = Choose 1 (two 3 1) ∷ Here ∷ Here ∷ Here ∷ NoChoice ∷ NoChoice ∷ Here ∷ NoChoice ∷ NoChoice ∷ NoChoice ∷ []
+
 -- buffers with a place to spare, before and after
 abbrev old : Buffers
 old =
@@ -79,6 +82,10 @@ new_ranks = 0 ∷ 0 ∷ 0 ∷ 0 ∷ 1 ∷ 1 ∷ 0 ∷ 2 ∷ 2 ∷ 0 ∷ 0 ∷ 0 
 
 abbrev new : Buffers
 new = buffers new_entries new_costs new_ranks
+
+-- the same with an operation that is not the lowest
+abbrev worse_entries : List Entry
+worse_entries = Work 2 ∷ There ∷ There ∷ There ∷ None ∷ None ∷ There ∷ None ∷ None ∷ Work 8 ∷ []
 
 -- tables with just their places
 abbrev tables : Buffers
@@ -100,16 +107,19 @@ rows =
     holds (chosen all) ∷
     fails (chosen leaving) ∷
     fails (chosen (Here ∷ all)) ∷
+    fails (chosen more) ∷
     fails (chosen (Choose 2 (two 3 1) ∷ Here ∷ Here ∷ Here ∷ NoChoice ∷ NoChoice ∷ Here ∷ NoChoice ∷ NoChoice ∷ [])) ∷
     -- Worked: with the ranks of all pairs
     holds (worked all ranks) ∷
     fails (worked all (0 ∷ ranks)) ∷
     fails (worked all new_ranks) ∷
+    fails (worked all (1 ∷ 0 ∷ 0 ∷ 0 ∷ 1 ∷ 1 ∷ 0 ∷ 2 ∷ 2 ∷ 0 ∷ 0 ∷ 0 ∷ [])) ∷
     fails (worked [] ranks) ∷
     -- Filled: the tables stand in front, what is past them is as it was, and the summary is of the ranks in front
     holds (filled 4 old new (summary 8 2 1)) ∷
     holds (filled 0 tables tables (summary 8 2 0)) ∷
     fails (filled 4 old old (summary 8 2 1)) ∷
+    fails (filled 4 old (record new { entries = worse_entries }) (summary 8 2 1)) ∷
     fails (filled 4 old tables (summary 8 2 1)) ∷
     fails (filled 4 old (record new { entries = entries }) (summary 8 2 1)) ∷
     fails (filled 4 old (record new { costs = costs }) (summary 8 2 1)) ∷
@@ -139,7 +149,8 @@ rows =
     fails (tabled 4 new (summary 8 2 1)) ∷
     fails (tabled 4 (record tables { entries = new_entries }) (summary 8 2 1)) ∷
     fails (tabled 4 (record tables { costs = two 3 1 ∷ [] }) (summary 8 2 1)) ∷
-    fails (tabled 4 (record tables { ranks = new_ranks }) (summary 8 2 1)) ∷
+    fails (tabled 4 (record tables { ranks = 0 ∷ 0 ∷ 0 ∷ 0 ∷ 1 ∷ 1 ∷ 0 ∷ 2 ∷ 2 ∷ 0 ∷ 0 ∷ 0 ∷ 1 ∷ [] }) (summary 8 2 1)) ∷
+    fails (tabled 4 (record tables { entries = Work 2 ∷ There ∷ There ∷ There ∷ None ∷ None ∷ There ∷ None ∷ None ∷ [] }) (summary 8 2 1)) ∷
     fails (tabled 4 tables (summary 8 2 2)) ∷
     fails (tabled 4 tables (summary 9 2 1)) ∷
     fails (tabled 4 tables (summary 8 1 1)) ∷
