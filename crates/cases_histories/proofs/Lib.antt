@@ -16,3 +16,4 @@ pub mod Decisions
 pub mod Controls
 pub mod Answers
 pub mod Outings
+pub mod Worlds

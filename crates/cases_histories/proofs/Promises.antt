@@ -1,15 +1,21 @@
 -- The rows of promises: of quotes and openings by one test, of histories each by its own.
-use Rattle.std.proofs.Common.{◌≡◌, ℕ, ◌<◌, Bool, true, false, not, ◌&&◌, ltb, ◌↔◌, List, [], ◌∷◌, Some, None, sym, refl, ap, ◌∙◌, subst, inl, inr, arith, ltb-true}
+use Rattle.std.proofs.Common.{◌≡◌, ℕ, ◌+◌, ◌<◌, ◌≤◌, Bool, true, false, not, ◌&&◌, ltb, ◌↔◌, List, [], ◌∷◌, get_or, Some, None, sym, refl, ap, ◌∙◌, subst, inl, inr, arith, ltb-true}
 use mathlib.Core.Bool.{and-eq-true_iff, false≢true}
 use Rattle.plans.specs.Flags.{task_at}
-use Rattle.plans.specs.Plans.{Plan, end}
+use Rattle.port.specs.Limits.{In}
+use Rattle.port.specs.declared.Move.{Move}
+use Rattle.plans.specs.Plans.{Plan, stop, work, IsRun, Works, end}
 use Rattle.plans.specs.Reach.{each}
-use Rattle.plans.specs.Simulation.{Kept}
-use Rattle.costs.specs.Costs.{Le}
-use Rattle.costs.specs.Models.{minutes_laws}
+use Rattle.plans.specs.Simulation.{WellFormed, Holds, Kept}
+use Rattle.plans.proofs.Serve.{kept_ranged, kept_serves, serves_mono}
+use Rattle.locks.specs.Places.{possible}
+use Rattle.locks.proofs.Standing.{possible_there}
+use Rattle.costs.specs.Costs.{Laws, Le, cost}
+use Rattle.costs.specs.Models.{minutes_laws, →lex}
+use Rattle.search.proofs.Runs.{has_cost}
 use Rattle.costs.proofs.Order.{weaken}
 use Rattle.solver.specs.declared.Entry.TheVariants.{None as NoEntry, There}
-use Rattle.solver.specs.Policy.{World, Solved}
+use Rattle.solver.specs.Policy.{World, Safe, Solved}
 use Rattle.histories.specs.declared.Command.TheVariants.{Quote, Ask, Step, Close}
 use Rattle.histories.specs.Calls.{quoted, granted, worked, closed, refused, refusal, open_rules, Opens, start_at}
 use Rattle.histories.specs.Errands.{request_of}
@@ -17,14 +23,14 @@ use Rattle.histories.specs.Promise.{Inside, LeastInSimulations, Promise, Promise
 use Rattle.histories.proofs.Basics.{some_inj, some_none}
 use Rattle.histories.proofs.Holds.{promise_holds}
 use Rattle.histories.proofs.Policy.{inside_safe, quote_least, safe_entry}
-use Rattle.cases_histories.specs.Sluice.{lift, flood, two, sluice, entries, costs, ranks, with_tables, w}
+use Rattle.cases_histories.specs.Sluice.{lift, flood, two, nought, sluice, entries, costs, ranks, with_tables, w, working}
 use Rattle.cases_histories.specs.Calls.{at}
 use Rattle.cases_histories.specs.Errands.{errand, event, leaving}
-use Rattle.cases_histories.specs.Promises.{Claim, inside, least, opening, Means, rows, PromisesSay, IsPromise, low, high, idle, lives, LivesSay, beginnings, BeginningsSay}
+use Rattle.cases_histories.specs.Promises.{Claim, inside, least, opening, Means, rows, PromisesSay, brink, edge, IsLeast, brinks, BrinksSay, IsPromise, low, high, idle, lives, LivesSay, beginnings, BeginningsSay}
 use Rattle.cases_histories.proofs.Rows.{alike, right, all_say, ◌⨾◌, each_says}
 use Rattle.cases_histories.proofs.Tests.{both, same_numbers, numbers_tell, same_place, places_tell, same_entry, entries_tell}
-use Rattle.cases_histories.proofs.Plans.{each_run, each_run_iff, attains_test, attains_decided, inside_test, kept_test, kept_decided}
-use Rattle.cases_histories.proofs.Rights.{one_price, priced_sized, formed}
+use Rattle.cases_histories.proofs.Plans.{each_run, each_run_iff, attains_test, attains_decided, inside_test, kept_test, kept_decided, formed_well, price_decided, safe_decided}
+use Rattle.cases_histories.proofs.Rights.{one_price, priced_sized, formed, joined}
 use Rattle.cases_histories.proofs.Policies.{solved_decided}
 use Rattle.cases_histories.proofs.Takes.{took_decided, history_decided, opens_test, opens_decided, unlike}
 
@@ -41,16 +47,17 @@ inside_decided q c R plan =
     (each_run_iff sluice.moves (λ ms. R (task_at sluice q).to (end c ms)) plan c)
 
 -- one least cost is at most another, so that there is one
-least_most : (q c : ℕ) (f g : List ℕ) → LeastInSimulations w q c f → LeastInSimulations w q c g → Le w.model f g
-least_most q c f g a b =
-    let s = b.some in
-    let t = a.least s.0 s.1 s.2.0 s.2.1 in
-    subst (λ (x : List ℕ). Le w.model f x) (one_price w minutes_laws s.1 c t.0 g t.1 s.2.2) t.2
+module _ (v : World) (laws : Laws v.model) where
+  least_most : (q c : ℕ) (f g : List ℕ) → LeastInSimulations v q c f → LeastInSimulations v q c g → Le v.model f g
+  least_most q c f g a b =
+      let s = b.some in
+      let t = a.least s.0 s.1 s.2.0 s.2.1 in
+      subst (λ (x : List ℕ). Le v.model f x) (one_price v laws s.1 c t.0 g t.1 s.2.2) t.2
 
-least_one : (q c : ℕ) (f g : List ℕ) → LeastInSimulations w q c f → LeastInSimulations w q c g → f ≡ g
-least_one q c f g a b =
-    minutes_laws.tie f g (priced_sized w minutes_laws a.some.1 c f a.some.2.2) (priced_sized w minutes_laws b.some.1 c g b.some.2.2)
-    (least_most q c f g a b) (least_most q c g f b a)
+  least_one : (q c : ℕ) (f g : List ℕ) → LeastInSimulations v q c f → LeastInSimulations v q c g → f ≡ g
+  least_one q c f g a b =
+      laws.tie f g (priced_sized v laws a.some.1 c f a.some.2.2) (priced_sized v laws b.some.1 c g b.some.2.2)
+      (least_most q c f g a b) (least_most q c g f b a)
 
 abbrev least_test : ℕ → ℕ → List ℕ → Bool
 least_test q c f = not (same_entry (w.entry q c) NoEntry) && same_numbers f (w.cost q c)
@@ -67,7 +74,7 @@ least_decided q c l m f = (
   λ a.
       let s = a.some in
       let there = safe_entry w own_solved (weaken minutes_laws) q l c m s.1 (inside_safe w q c s.0 s.1 s.2.0 s.2.1) in
-      parts.1 (there, least_one q c f (w.cost q c) a (own there)),
+      parts.1 (there, least_one w minutes_laws q c f (w.cost q c) a (own there)),
 )
   where
     own : (w.entry q c ≡ NoEntry → ⊥) → LeastInSimulations w q c (w.cost q c)
@@ -77,6 +84,76 @@ least_decided q c l m f = (
     parts =
         both (not (same_entry (w.entry q c) NoEntry)) (same_numbers f (w.cost q c))
         (not_so (same_entry (w.entry q c) NoEntry) (entries_tell (w.entry q c) NoEntry)) (numbers_tell f (w.cost q c))
+
+-- ── the brink ──
+
+brink_formed : WellFormed brink
+brink_formed = formed_well brink refl
+
+-- at its ends nothing is possible
+brink_idle : (m : Move) → In m brink.moves → (o : ℕ) → possible brink.moves m.outcome o ≡ false
+brink_idle m (inl e) o = ap (λ (x : Move). possible brink.moves x.outcome o) e
+brink_idle m (inr (inl e)) o = ap (λ (x : Move). possible brink.moves x.outcome o) e
+brink_idle m (inr (inr n)) o = absurd n
+
+idle_run : (plan : Plan) (c : ℕ) (ms : List Move) → ((o : ℕ) → possible brink.moves c o ≡ false) → Works brink.moves plan c →
+    IsRun brink.moves plan c ms → ms ≡ []
+idle_run stop c [] still x r = refl
+idle_run stop c (m ∷ ms) still x r = absurd r
+idle_run (work o next) c ms still x r = absurd (false≢true (sym (still o) ∙ possible_there brink.moves c o x.0))
+
+-- a first move that ends in a kept pair is a lift
+lifted : (m : Move) → In m brink.moves → Kept brink 1 m.outcome → 3 ≤ m.minutes
+lifted m (inl e) k = subst (λ (x : Move). 3 ≤ x.minutes) (sym e) (omega arith)
+lifted m (inr (inl e)) k =
+    absurd (false≢true ((kept_decided brink brink_formed 1 2).1 (subst (λ (x : Move). Kept brink 1 x.outcome) e k)))
+lifted m (inr (inr n)) k = absurd n
+
+brink_dear : (plan : Plan) → Safe edge 0 plan 0 → (ms : List Move) → IsRun brink.moves plan 0 ms → Le edge.model (two 3 1) (cost edge.model ms)
+brink_dear stop s ms r = absurd (false≢true ((safe_decided edge brink_formed 0 stop 0).1 s))
+brink_dear (work o next) s [] r = absurd r
+brink_dear (work o next) s (m ∷ ms) r =
+    let none = idle_run (next m.outcome) m.outcome ms (brink_idle m r.0.0) (s.0.0.1 m r.0) r.1 in
+    let k : Kept brink 1 m.outcome = subst (λ (x : List Move). Kept brink 1 (end m.outcome x)) none (s.1 (m ∷ ms) r) in
+    →lex 3 1 (get_or (cost edge.model ms) 0 0 + m.minutes) (get_or (cost edge.model ms) 1 0 + 1)
+    (joined m.minutes (get_or (cost edge.model ms) 0 0) (get_or (cost edge.model ms) 1 0) (lifted m r.0.0 k))
+
+brink_least : IsLeast (two 3 1)
+brink_least = record {
+  some = (
+    kept_test brink,
+    working 1,
+    (
+      record {
+        ranged = λ s c h. kept_ranged brink s c ((kept_decided brink brink_formed s c).0 h);
+        closed = λ s c h. serves_mono brink (Kept brink) (Holds (kept_test brink))
+            (λ t d k. (kept_decided brink brink_formed t d).1 k) s c (kept_serves brink s c ((kept_decided brink brink_formed s c).0 h));
+      },
+      brink_inside,
+      (price_decided edge (working 1) 0 (two 3 1)).0 refl,
+    ),
+  );
+  least = λ R plan sim i.
+      let s = inside_safe edge 0 0 R plan sim i in
+      let t = has_cost (weaken minutes_laws) brink.moves (task_at brink 0).keep (task_at brink 0).reach plan 0 s.0 in
+      (t.0, t.1, subst (λ (x : List ℕ). Le edge.model (two 3 1) x) t.1.some.2 (brink_dear plan s t.1.some.0 t.1.some.1));
+}
+  where
+    brink_inside : Inside edge 0 0 (kept_test brink) (working 1)
+    brink_inside =
+        let s = (safe_decided edge brink_formed 0 (working 1) 0).0 refl in
+        (s.0, λ ms r. (kept_decided brink brink_formed 1 (end 0 ms)).1 (s.1 ms r))
+
+other_least : (f : List ℕ) → same_numbers f (two 3 1) ≡ false → IsLeast f → ⊥
+other_least f e a = false≢true (sym e ∙ (numbers_tell f (two 3 1)).1 (least_one edge minutes_laws 0 0 f (two 3 1) a brink_least))
+
+pub brinks_say : BrinksSay
+brinks_say = each_says IsLeast brinks (
+    brink_least
+    ⨾ other_least (two 1 1) refl
+    ⨾ other_least nought refl
+    ⨾ tt
+    )
 
 -- ── openings ──
 

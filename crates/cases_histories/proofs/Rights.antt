@@ -132,7 +132,7 @@ three m (inr (inr (inl e))) = subst (λ (x : Move). 3 ≤ x.minutes) (sym e) (om
 three m (inr (inr (inr (inl e)))) = subst (λ (x : Move). 3 ≤ x.minutes) (sym e) (omega arith)
 three m (inr (inr (inr (inr n)))) = absurd n
 
-joined : (minutes a b : ℕ) → 3 ≤ minutes → Lex 3 1 (a + minutes) (b + 1)
+pub joined : (minutes a b : ℕ) → 3 ≤ minutes → Lex 3 1 (a + minutes) (b + 1)
 joined minutes a b l =
     elim (dec_lt 3 (a + minutes)) [
       | yes h ↦ inl h

@@ -129,16 +129,16 @@ worked_decided cs rs = (
 
 -- ── buffers ──
 
-abbrev same_entries : List Entry → List Entry → Bool
+abbrev pub same_entries : List Entry → List Entry → Bool
 same_entries a b = same_list same_entry a b
 
-entries_same : (a b : List Entry) → (same_entries a b ≡ true) ↔ (a ≡ b)
+pub entries_same : (a b : List Entry) → (same_entries a b ≡ true) ↔ (a ≡ b)
 entries_same a b = list_tells same_entry entries_tell a b
 
-abbrev same_costs : List (List ℕ) → List (List ℕ) → Bool
+abbrev pub same_costs : List (List ℕ) → List (List ℕ) → Bool
 same_costs a b = same_list same_numbers a b
 
-costs_same : (a b : List (List ℕ)) → (same_costs a b ≡ true) ↔ (a ≡ b)
+pub costs_same : (a b : List (List ℕ)) → (same_costs a b ≡ true) ↔ (a ≡ b)
 costs_same a b = list_tells same_numbers numbers_tell a b
 
 abbrev room : Buffers → Bool

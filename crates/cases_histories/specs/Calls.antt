@@ -95,22 +95,27 @@ rows =
     -- ask_rules: the same, and stuck
     holds (ruled (ask_rules w 0 (Some 0) 0) (clear 22 ∷ clear 23 ∷ clear 25 ∷ clear 29 ∷ [])) ∷
     holds (ruled (ask_rules astray 0 (Some 1) 0) (clear 22 ∷ clear 23 ∷ clear 25 ∷ bars 29 ∷ [])) ∷
+    holds (ruled (ask_rules w 1 (Some 1) 1) (clear 22 ∷ clear 23 ∷ bars 25 ∷ bars 29 ∷ [])) ∷
+    holds (ruled (ask_rules w 1 None 0) (bars 22 ∷ bars 23 ∷ bars 25 ∷ bars 29 ∷ [])) ∷
     fails (ruled (ask_rules w 0 (Some 0) 0) (clear 22 ∷ clear 23 ∷ clear 25 ∷ [])) ∷
     fails (ruled (ask_rules astray 0 (Some 0) 0) (clear 22 ∷ clear 23 ∷ clear 25 ∷ clear 29 ∷ [])) ∷
     -- step_rules: the same, but arrived before stuck
     holds (ruled (step_rules w 0 (Some 0) 0) (clear 22 ∷ clear 23 ∷ clear 25 ∷ clear 26 ∷ clear 29 ∷ [])) ∷
     holds (ruled (step_rules w 0 (Some 2) 0) (clear 22 ∷ clear 23 ∷ clear 25 ∷ bars 26 ∷ clear 29 ∷ [])) ∷
+    holds (ruled (step_rules w 1 None 0) (bars 22 ∷ bars 23 ∷ bars 25 ∷ clear 26 ∷ bars 29 ∷ [])) ∷
     fails (ruled (step_rules w 0 (Some 2) 0) (clear 22 ∷ clear 23 ∷ clear 25 ∷ clear 26 ∷ clear 29 ∷ [])) ∷
     fails (ruled (step_rules w 0 (Some 0) 0) (clear 22 ∷ clear 23 ∷ clear 25 ∷ clear 29 ∷ clear 26 ∷ [])) ∷
     -- close_rules: not offered, nowhere, not arrived
     holds (ruled (close_rules w 0 (Some 1) 0) (clear 22 ∷ clear 23 ∷ clear 27 ∷ [])) ∷
     holds (ruled (close_rules w 0 (Some 0) 0) (clear 22 ∷ clear 23 ∷ bars 27 ∷ [])) ∷
     holds (ruled (close_rules w 1 (Some 1) 1) (clear 22 ∷ clear 23 ∷ bars 27 ∷ [])) ∷
+    holds (ruled (close_rules w 1 None 0) (bars 22 ∷ bars 23 ∷ bars 27 ∷ [])) ∷
     fails (ruled (close_rules w 0 (Some 0) 0) (clear 22 ∷ clear 23 ∷ clear 27 ∷ [])) ∷
     fails (ruled (close_rules w 1 (Some 1) 1) (clear 22 ∷ clear 23 ∷ bars 25 ∷ [])) ∷
     -- rules: a quote is refused by its own alone; an ask by 21 where a grant is out; a step or a close by 28 where its request is not
     holds (place (refusal (rules w (at 0 (Some 0) (Some 0)) (Quote 0))) None) ∷
     holds (place (refusal (rules w (at 1 None (Some 1)) (Quote 1))) (Some 25)) ∷
+    holds (place (refusal (rules astray (at 0 None (Some 0)) (Quote 0))) None) ∷
     fails (place (refusal (rules w (at 0 (Some 0) (Some 0)) (Quote 0))) (Some 21)) ∷
     fails (place (refusal (rules w (at 1 None (Some 1)) (Quote 1))) None) ∷
     holds (place (refusal (rules w (at 0 None (Some 0)) (Ask 0))) None) ∷

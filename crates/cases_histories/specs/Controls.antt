@@ -197,6 +197,7 @@ rows =
     holds (does port high (Close 0) (Ok (Closed 0)) (state 0 None 1)) ∷
     holds (does port (state 2 (Some 2) 0) (Close 2) (Ok (Closed 1)) (state 1 None 0)) ∷
     fails (does port (state 2 (Some 2) 0) (Close 2) (Ok (Closed 1)) (state 2 None 0)) ∷
+    fails (does port (state 2 (Some 2) 0) (Close 2) (Ok (Closed 2)) (state 2 None 0)) ∷
     fails (does port high (Close 0) (Ok (Closed 0)) high) ∷
     fails (does port low (Close 0) (Ok (Closed 0)) idle) ∷
     -- refused: by a rule, or by the lock, and nothing changes

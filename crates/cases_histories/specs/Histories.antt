@@ -101,6 +101,7 @@ rows =
     holds (history w low (event low (Step 0) (worked lift) high ∷ event high (Step 0) (refused 26) high ∷ []) high) ∷
     fails (history w idle leaving idle) ∷
     fails (history w high [] low) ∷
+    fails (history w idle (event high (Quote 0) (quoted (two 3 1)) idle ∷ []) idle) ∷
     fails (history w low (event low (Step 0) (worked lift) high ∷ event low (Step 0) (worked lift) high ∷ []) high) ∷
     fails (history w idle (event low (Step 0) (worked lift) high ∷ []) high) ∷
     fails (history w low (event low (Step 0) (worked hoist) high ∷ []) high) ∷

@@ -56,6 +56,7 @@ rows =
     holds (course no_lift low (turn low (Step 0) (Err Stuck) low ∷ []) low) ∷
     holds (course port low [] low) ∷
     fails (course port low [] high) ∷
+    fails (course port idle (turn high (Quote 0) (Ok (Quoted (two 3 1))) idle ∷ []) idle) ∷
     fails (course port idle (turn low (Step 0) (Ok (Worked 1)) high ∷ []) high) ∷
     fails (course port idle (turn idle (Ask 0) (Ok (Granted (two 3 1))) low ∷ turn idle (Ask 0) (Ok (Granted (two 3 1))) low ∷ []) low) ∷
     fails (course no_lift low (turn low (Step 0) (Ok (Worked 1)) high ∷ []) high) ∷

@@ -1,11 +1,15 @@
 -- Examples of what a controller promises: of quotes and openings, and over whole histories.
 use Rattle.std.specs.Prelude.{ℕ, Bool, true, ◌&&◌, ◌==◌, List, [], ◌∷◌, Some, None}
 use Rattle.plans.specs.Plans.{Plan, stop}
+use Rattle.plans.specs.Simulation.{Domain}
+use Rattle.costs.specs.Models.{minutes_model}
+use Rattle.solver.specs.declared.Entry.TheVariants.{Work}
+use Rattle.solver.specs.Policy.{World, world_of}
 use Rattle.histories.specs.declared.Command.TheVariants.{Quote, Ask, Step, Close}
 use Rattle.histories.specs.Calls.{At, quoted, granted, worked, closed, Event}
 use Rattle.histories.specs.Promise.{Inside, LeastInSimulations, Promise, Promised, Opening}
 use Rattle.cases_histories.specs.Rows.{Row, holds, fails, AllSay}
-use Rattle.cases_histories.specs.Sluice.{lift, flood, two, nought, entries, costs, ranks, with_tables, w, working}
+use Rattle.cases_histories.specs.Sluice.{move, any, is, isnt, lift, flood, two, nought, entries, costs, ranks, as_given, with_tables, w, working}
 use Rattle.cases_histories.specs.Calls.{at}
 use Rattle.cases_histories.specs.Errands.{event, leaving}
 
@@ -59,6 +63,34 @@ rows =
 
 abbrev pub PromisesSay : Type 0
 PromisesSay = AllSay Means rows
+
+-- ── least in simulations, and not merely the least ──
+
+-- the same lock, that can gush too, and so flood in less time; with a request to leave low, and at its end one to be high
+abbrev pub brink : Domain
+brink = record {
+  conditions = 3;
+  stages = 2;
+  moves = lift ∷ move 0 3 2 1 ∷ [];
+  tasks = record { from = 0; to = 1; keep = any; reach = isnt 0 } ∷ record { from = 1; to = 1; keep = any; reach = is 1 } ∷ [];
+}
+
+abbrev pub edge : World
+edge = world_of brink minutes_model as_given (Work 1 ∷ []) (two 3 1 ∷ []) []
+
+abbrev pub IsLeast : List ℕ → Type 0
+IsLeast f = LeastInSimulations edge 0 0 f
+
+-- LeastInSimulations: a plan that gushes costs less, but no simulation has its end
+abbrev pub brinks : List (Row (List ℕ))
+brinks =
+    holds (two 3 1) ∷
+    fails (two 1 1) ∷
+    fails nought ∷
+    []
+
+abbrev pub BrinksSay : Type 0
+BrinksSay = AllSay IsLeast brinks
 
 -- ── histories ──
 

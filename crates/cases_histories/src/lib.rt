@@ -9,9 +9,10 @@ ghost use Rattle.cases_histories.specs.Errands.{ErrandsSay};
 ghost use Rattle.cases_histories.specs.Histories.{HistoriesSay};
 ghost use Rattle.cases_histories.specs.Outings.{CoursesSay, ErrorsSay, LogsSay};
 ghost use Rattle.cases_histories.specs.Policies.{PoliciesSay};
-ghost use Rattle.cases_histories.specs.Promises.{BeginningsSay, LivesSay, PromisesSay};
+ghost use Rattle.cases_histories.specs.Promises.{BeginningsSay, BrinksSay, LivesSay, PromisesSay};
 ghost use Rattle.cases_histories.specs.Solving.{SolvingSay};
 ghost use Rattle.cases_histories.specs.Tables.{TablesSay};
+ghost use Rattle.cases_histories.specs.Worlds.{WorldsSay};
 
 // What is computed of a policy, its tables and its ranks.
 pub fn tables_stand() -> bool
@@ -62,6 +63,13 @@ pub fn promises_stand() -> bool
     true
 }
 
+// A quote that is the least of plans that end inside a simulation, and not of all.
+pub fn brinks_stand() -> bool
+    ensures { BrinksSay }
+{
+    true
+}
+
 // Histories that have the promise, and for each part of it one that breaks it.
 pub fn lives_stand() -> bool
     ensures { LivesSay }
@@ -93,6 +101,13 @@ pub fn answers_stand() -> bool
 // What a controller decides and does.
 pub fn controls_stand() -> bool
     ensures { ControlsSay }
+{
+    true
+}
+
+// Ports in memory with a policy, and controllers on them.
+pub fn worlds_stand() -> bool
+    ensures { WorldsSay }
 {
     true
 }
