@@ -133,6 +133,7 @@ rows =
     holds (place (refusal (rules w (at 0 (Some 0) (Some 1)) (Close 0))) None) ∷
     holds (place (refusal (rules w (at 0 (Some 0) (Some 0)) (Close 0))) (Some 27)) ∷
     holds (place (refusal (rules w (at 0 None (Some 0)) (Close 0))) (Some 28)) ∷
+    holds (place (refusal (rules w (at 0 (Some 1) (Some 1)) (Close 0))) (Some 28)) ∷
     fails (place (refusal (rules w (at 0 (Some 0) (Some 0)) (Close 0))) None) ∷
     fails (place (refusal (rules w (at 0 None (Some 0)) (Close 0))) (Some 27)) ∷
     -- rank_of: the rank where the lock stands, and 0 where it stands nowhere

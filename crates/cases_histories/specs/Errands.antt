@@ -50,6 +50,7 @@ rows =
     holds (went (moved lift (new ∷ older ∷ [])) (on ∷ older ∷ [])) ∷
     holds (went (moved flood (on ∷ [])) (errand 0 (two 3 1) (lift ∷ flood ∷ []) true ∷ [])) ∷
     holds (went (moved lift []) []) ∷
+    holds (went (moved lift (older ∷ [])) (errand 2 nought (lift ∷ []) false ∷ [])) ∷
     fails (went (moved flood (on ∷ [])) (errand 0 (two 3 1) (flood ∷ lift ∷ []) true ∷ [])) ∷
     fails (went (moved lift (new ∷ new ∷ [])) (on ∷ on ∷ [])) ∷
     fails (went (moved lift (new ∷ [])) (new ∷ [])) ∷
@@ -65,6 +66,8 @@ rows =
     holds (went (noted (Close 0) (closed 0) (new ∷ [])) (errand 0 (two 3 1) [] false ∷ [])) ∷
     holds (went (noted (Quote 0) (quoted (two 3 1)) (older ∷ [])) (older ∷ [])) ∷
     holds (went (noted (Step 0) (refused 28) (older ∷ [])) (older ∷ [])) ∷
+    holds (went (noted (Quote 0) (quoted (two 3 1)) (new ∷ [])) (new ∷ [])) ∷
+    holds (went (noted (Ask 0) (refused 21) (new ∷ [])) (new ∷ [])) ∷
     fails (went (noted (Ask 0) (granted (two 3 1)) (older ∷ [])) (older ∷ new ∷ [])) ∷
     fails (went (noted (Ask 1) (granted (two 3 1)) []) (new ∷ [])) ∷
     fails (went (noted (Ask 0) (refused 21) []) (new ∷ [])) ∷

@@ -96,6 +96,7 @@ rows =
     -- zeros, largest_of: how many ranks are 0, and the largest
     holds (number (zeros (0 ∷ 2 ∷ 0 ∷ [])) 2) ∷
     holds (number (zeros []) 0) ∷
+    holds (number (zeros (1 ∷ 0 ∷ [])) 1) ∷
     fails (number (zeros (0 ∷ 2 ∷ 0 ∷ [])) 1) ∷
     fails (number (zeros (1 ∷ 2 ∷ [])) 2) ∷
     holds (number (largest_of (0 ∷ 2 ∷ 1 ∷ [])) 2) ∷
