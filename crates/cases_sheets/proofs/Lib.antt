@@ -1,2 +1,4 @@
 pub mod Rows
 pub mod Loads
+pub mod Records
+pub mod Readers

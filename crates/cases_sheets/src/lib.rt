@@ -3,6 +3,8 @@
 #![tactic(auto)]
 
 ghost use Rattle.cases_sheets.specs.Loads.{HoldingsHold, LoadsHold, TellsHold};
+ghost use Rattle.cases_sheets.specs.Readers.{ItselfShown, ReadsHold, StepsShown};
+ghost use Rattle.cases_sheets.specs.Records.{AdmissionsShown, DecodingsHold, EntriesShown, HeadsShown, KindsShown, RequestsShown};
 
 // The answer that tells what is read.
 pub fn tells_stand() -> bool
@@ -21,6 +23,69 @@ pub fn loaded_stand() -> bool
 // The port that is held after a load.
 pub fn holds_stand() -> bool
     ensures { HoldingsHold }
+{
+    true
+}
+
+// The bytes of kinds.
+pub fn kinds_stand() -> bool
+    ensures { KindsShown }
+{
+    true
+}
+
+// The kind that a byte stands for.
+pub fn decodes_stand() -> bool
+    ensures { DecodingsHold }
+{
+    true
+}
+
+// What is judged of a kind byte.
+pub fn admissions_stand() -> bool
+    ensures { AdmissionsShown }
+{
+    true
+}
+
+// How a record begins.
+pub fn heads_stand() -> bool
+    ensures { HeadsShown }
+{
+    true
+}
+
+// Requests whose texts are still in the sheet.
+pub fn requests_stand() -> bool
+    ensures { RequestsShown }
+{
+    true
+}
+
+// What records say.
+pub fn entries_stand() -> bool
+    ensures { EntriesShown }
+{
+    true
+}
+
+// Steps of a reader, and bytes from 1 to a limit.
+pub fn steps_stand() -> bool
+    ensures { StepsShown }
+{
+    true
+}
+
+// Values that stand for themselves.
+pub fn itself_stands() -> bool
+    ensures { ItselfShown }
+{
+    true
+}
+
+// What is told of a reader's step.
+pub fn reads_stand() -> bool
+    ensures { ReadsHold }
 {
     true
 }

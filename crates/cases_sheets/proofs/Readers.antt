@@ -1,0 +1,57 @@
+-- The rows of readers.
+use Rattle.std.proofs.Common.{◌≡◌, ℕ, Bool, List, Ok, Err, Result, refl}
+use Rattle.faults.specs.declared.layers.PortFault.{PortFault}
+use Rattle.faults.specs.declared.layers.RecordFault.{RecordFault}
+use Rattle.port.specs.Limits.{In}
+use Rattle.reading.specs.Reading.{Step, got, fault, and_then, provided, byte, number}
+use Rattle.reader.specs.declared.reader.Reader.{Reader}
+use Rattle.reader.specs.Reads.{step, Reads, counted}
+use Rattle.cases_words.specs.Rows.{Said}
+use Rattle.cases_words.proofs.Rows.{all_shown}
+use Rattle.cases_words.proofs.Fields.{step_code, number_code}
+use Rattle.cases_sheets.specs.Readers.{steps, StepsShown, stands_for_itself, ItselfShown, ReadsRow, reads, lifted_reads, ReadsHold}
+use Rattle.cases_sheets.proofs.Rows.{all_same, said_as}
+
+pub steps_shown : StepsShown
+unfolding and_then provided byte number counted
+steps_shown = all_shown (step_code number_code) steps refl refl
+
+pub itself_shown : ItselfShown
+itself_shown = all_shown number_code stands_for_itself refl refl
+
+module _ {E : Type 0} where
+  -- the step that the answer tells
+  abbrev told : (ℕ → ℕ) → (E → PortFault) → Reader → Result ℕ E → Step ℕ
+  told value lift after (Ok v) = got (value v) after.place after.rest.now
+  told value lift after (Err e) = fault (lift e)
+
+  abbrev made : ReadsRow E → Step ℕ
+  made r = step r.read r.before
+
+  abbrev telling : ReadsRow E → Step ℕ
+  telling r = told r.value r.lift r.after r.answer
+
+  to_reads : (read : ℕ → List ℕ → Step ℕ) (value : ℕ → ℕ) (lift : E → PortFault) (before after : Reader) (r : Result ℕ E) →
+      step read before ≡ told value lift after r → Reads read value lift before after r
+  to_reads read value lift before after (Ok v) e = e
+  to_reads read value lift before after (Err f) e = e
+
+  from_reads : (read : ℕ → List ℕ → Step ℕ) (value : ℕ → ℕ) (lift : E → PortFault) (before after : Reader) (r : Result ℕ E) →
+      Reads read value lift before after r → step read before ≡ told value lift after r
+  from_reads read value lift before after (Ok v) e = e
+  from_reads read value lift before after (Err f) e = e
+
+  reads_say : (r : ReadsRow E) → Said r.holds (made r ≡ telling r) → Said r.holds (Reads r.read r.value r.lift r.before r.after r.answer)
+  reads_say r =
+      said_as r.holds (to_reads r.read r.value r.lift r.before r.after r.answer) (from_reads r.read r.value r.lift r.before r.after r.answer)
+
+plain_same : (r : ReadsRow PortFault) → In r reads → Said r.holds (made r ≡ telling r)
+unfolding and_then provided byte number counted
+plain_same = all_same (step_code number_code) made telling (λ (r : ReadsRow PortFault). r.holds) reads refl refl
+
+lifted_same : (r : ReadsRow RecordFault) → In r lifted_reads → Said r.holds (made r ≡ telling r)
+unfolding and_then provided byte number counted
+lifted_same = all_same (step_code number_code) made telling (λ (r : ReadsRow RecordFault). r.holds) lifted_reads refl refl
+
+pub reads_hold : ReadsHold
+reads_hold = record { plain = λ r i. reads_say r (plain_same r i); lifted = λ r i. reads_say r (lifted_same r i) }
