@@ -2,3 +2,4 @@ pub mod Rows
 pub mod Loads
 pub mod Records
 pub mod Readers
+pub mod Drafts

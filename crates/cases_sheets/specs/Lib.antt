@@ -1,3 +1,4 @@
 pub mod Loads
 pub mod Records
 pub mod Readers
+pub mod Drafts

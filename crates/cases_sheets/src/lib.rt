@@ -2,6 +2,7 @@
 // of one list, by its contract.
 #![tactic(auto)]
 
+ghost use Rattle.cases_sheets.specs.Drafts.{DraftsShown};
 ghost use Rattle.cases_sheets.specs.Loads.{HoldingsHold, LoadsHold, TellsHold};
 ghost use Rattle.cases_sheets.specs.Readers.{ItselfShown, ReadsHold, StepsShown};
 ghost use Rattle.cases_sheets.specs.Records.{AdmissionsShown, DecodingsHold, EntriesShown, HeadsShown, KindsShown, RequestsShown};
@@ -86,6 +87,13 @@ pub fn itself_stands() -> bool
 // What is told of a reader's step.
 pub fn reads_stand() -> bool
     ensures { ReadsHold }
+{
+    true
+}
+
+// What a draft says.
+pub fn drafts_stand() -> bool
+    ensures { DraftsShown }
 {
     true
 }
