@@ -18,7 +18,7 @@ use Rattle.cases_words.proofs.Fields.{fault_code}
 use Rattle.cases_words.proofs.Held.{same_limits}
 use Rattle.cases_words.proofs.Ports.{valid, valid_decides}
 use Rattle.cases_words.proofs.Records.{model_code}
-use Rattle.cases_sheets.specs.Loads.{TellsRow, tells, TellsHold, LoadRow, loads, LoadSaid, LoadIs, LoadsHold, HoldsRow, holdings, HoldsIs, HoldingsHold}
+use Rattle.cases_sheets.specs.Loads.{TellsRow, tells, TellsHold, LoadRow, loads, LoadSaid, LoadIs, LoadsHold, HoldsRow, holdings, HoldsIs, HoldingsHold, ComesTo, OneAnswer}
 use Rattle.cases_sheets.proofs.Rows.{all_same, said_as}
 
 abbrev read_code : Read → List ℕ
@@ -169,3 +169,24 @@ holdings_hold r i =
       is = its_model r.after v;
       said = λ p q. said_as r.holds (holds_it r.asked r.after r.answer p q) (it_holds r.asked r.after r.answer p q) (holds_same r i);
     }
+
+-- ── of all loads ──
+
+abbrev is_held : Read → Bool
+is_held (held m) = true
+is_held (refused f n) = false
+
+one_answer_of : (t : List ℕ) (x : Read) → reading t ≡ x → (before after : Port) (r : Result (Unit {0}) LoadError) → Loaded t before after r → ComesTo x before after r
+one_answer_of t (held m) e before after (Ok u) l = let h : held (model_of after) ≡ held m = sym l ∙ e in cc
+one_answer_of t (held m) e before after (Err (Fault f n)) l = false≢true (ap is_held (sym l.0 ∙ e))
+one_answer_of t (held m) e before after (Err Memory) l = tt
+one_answer_of t (refused f n) e before after (Ok u) l = false≢true (ap is_held (sym e ∙ l))
+one_answer_of t (refused f n) e before after (Err (Fault g k)) l =
+    let h : refused g k ≡ refused f n = sym l.0 ∙ e in
+    let fault : g ≡ f = cc in
+    let records : k ≡ n = cc in
+    (fault, (records, l.1))
+one_answer_of t (refused f n) e before after (Err Memory) l = l
+
+pub one_answer : OneAnswer
+one_answer t before after r l = one_answer_of t (reading t) refl before after r l

@@ -3,13 +3,13 @@ use Rattle.std.proofs.Common.{◌≡◌, ℕ, Bool, List, Ok, Err, Result, refl}
 use Rattle.faults.specs.declared.layers.PortFault.{PortFault}
 use Rattle.faults.specs.declared.layers.RecordFault.{RecordFault}
 use Rattle.port.specs.Limits.{In}
-use Rattle.reading.specs.Reading.{Step, got, fault, and_then, provided, byte, number}
+use Rattle.reading.specs.Reading.{Step, got, fault, and_then, provided, byte, number, count, text_length}
 use Rattle.reader.specs.declared.reader.Reader.{Reader}
 use Rattle.reader.specs.Reads.{step, Reads, counted}
 use Rattle.cases_words.specs.Rows.{Said}
 use Rattle.cases_words.proofs.Rows.{all_shown}
 use Rattle.cases_words.proofs.Fields.{step_code, number_code}
-use Rattle.cases_sheets.specs.Readers.{steps, StepsShown, stands_for_itself, ItselfShown, ReadsRow, reads, lifted_reads, ReadsHold}
+use Rattle.cases_sheets.specs.Readers.{steps, StepsShown, stands_for_itself, ItselfShown, ReadsRow, reads, lifted_reads, ReadsHold, Counts}
 use Rattle.cases_sheets.proofs.Rows.{all_same, said_as}
 
 pub steps_shown : StepsShown
@@ -55,3 +55,7 @@ lifted_same = all_same (step_code number_code) made telling (λ (r : ReadsRow Re
 
 pub reads_hold : ReadsHold
 reads_hold = record { plain = λ r i. reads_say r (plain_same r i); lifted = λ r i. reads_say r (lifted_same r i) }
+
+pub counts_are : Counts
+unfolding counted count text_length
+counts_are = record { counts = λ most p s. refl; lengths = λ p s. refl }

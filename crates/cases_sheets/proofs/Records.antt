@@ -1,17 +1,19 @@
 -- The rows of records.
-use Rattle.std.proofs.Common.{◌≡◌, ℕ, Bool, not, ◌&&◌, eqb, List, [], ◌∷◌, ◌++◌, Ok, Err, Result, refl}
+use Rattle.std.proofs.Common.{◌≡◌, ℕ, Bool, not, ◌&&◌, eqb, List, [], ◌∷◌, ◌++◌, Ok, Err, MatchResult, Result, refl}
 use Rattle.std.specs.Bool.{Decides}
 use Rattle.std.proofs.lemmas.Bool.Decides.{Decides-and, Decides-not, Decides-eqb}
 use Rattle.faults.specs.declared.layers.PortFault.{PortFault}
-use Rattle.port.specs.Model.{RequestModel}
-use Rattle.reading.specs.Reading.{Head, Entry, condition_entry, move_entry, request_entry}
+use Rattle.port.specs.Model.{Model, RequestModel}
+use Rattle.reading.specs.Reading.{Step, fault, Head, admitted, Entry, condition_entry, move_entry, request_entry}
 use Rattle.records.specs.declared.kinds.Kind.{Kind}
 use Rattle.records.specs.declared.kinds.UnknownKind.{UnknownKind}
 use Rattle.records.specs.Kinds.{kind_number, Decodes}
+use Rattle.records.specs.Admission.{admission}
+use Rattle.records.proofs.Admitted.{admission_fault, admission_passed}
 use Rattle.cases_words.proofs.Rows.{all_shown, all_said}
 use Rattle.cases_words.proofs.Fields.{fault_code, number_code}
 use Rattle.cases_words.proofs.Limits.{move_code}
-use Rattle.cases_sheets.specs.Records.{kinds, KindsShown, DecodesRow, decodings, DecodingsHold, admissions, AdmissionsShown, heads_read, HeadsShown, requests, RequestsShown, entries, EntriesShown}
+use Rattle.cases_sheets.specs.Records.{kinds, KindsShown, DecodesRow, decodings, DecodingsHold, admissions, AdmissionsShown, AdmitsAsRead, heads_read, HeadsShown, requests, RequestsShown, entries, EntriesShown}
 
 pub kinds_shown : KindsShown
 kinds_shown = all_shown number_code kinds refl refl
@@ -41,6 +43,14 @@ admission_code (Err f) = fault_code f
 
 pub admissions_shown : AdmissionsShown
 admissions_shown = all_shown admission_code admissions refl refl
+
+module _ (m : Model) (k p : ℕ) (x : Step Head) where
+  admits : (r : Result (Unit {0}) PortFault) → admission m k p ≡ r → MatchResult r (λ _. admitted m k p x ≡ x) (λ f. admitted m k p x ≡ fault f)
+  admits (Ok u) e = admission_passed m k p x u e
+  admits (Err f) e = admission_fault m k p x f e
+
+pub admits_as_read : AdmitsAsRead
+admits_as_read m k p x = admits m k p x (admission m k p) refl
 
 abbrev head_code : Head → List ℕ
 head_code h = h.kind ∷ h.place ∷ h.map ∷ h.map_place ∷ []

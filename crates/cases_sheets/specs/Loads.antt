@@ -9,7 +9,7 @@ use Rattle.faults.specs.declared.layers.PortFault.TheVariants.{Record, Sequence,
 use Rattle.port.specs.declared.held.Port.{Port}
 use Rattle.port.specs.Limits.{In}
 use Rattle.port.specs.Model.{Model, model_of, first}
-use Rattle.reading.specs.Reading.{Read, held, refused, finish}
+use Rattle.reading.specs.Reading.{Read, held, refused, finish, reading}
 use Rattle.reading.specs.SheetOf.{sheet_of}
 use Rattle.sheet.specs.Loading.{Tells, Loaded, Holds}
 use Rattle.cases_words.specs.Rows.{Said}
@@ -159,3 +159,16 @@ pub record HoldsIs (r : HoldsRow) : Type 0 where
 
 abbrev pub HoldingsHold : Type 0
 HoldingsHold = (r : HoldsRow) → In r holdings → HoldsIs r
+
+-- ── and of all loads ──
+
+-- what a load of a sheet comes to, by what is read: the port is held; or the reading's fault is told, and no other, and the port is as it was
+abbrev pub ComesTo : Read → Port → Port → Result (Unit {0}) LoadError → Type 0
+ComesTo (held m) before after r = Holds m after r
+ComesTo (refused f n) before after (Ok _) = ⊥
+ComesTo (refused f n) before after (Err (Fault g k)) = (g ≡ f) × ((k ≡ n) × (after ≡ before))
+ComesTo (refused f n) before after (Err Memory) = after ≡ before
+
+-- so a sheet has one answer, but for want of memory
+abbrev pub OneAnswer : Type 0
+OneAnswer = (t : List ℕ) (before after : Port) (r : Result (Unit {0}) LoadError) → Loaded t before after r → ComesTo (reading t) before after r

@@ -9,7 +9,7 @@ use Rattle.faults.specs.declared.layers.RecordFault.TheVariants.{Byte, Absent}
 use Rattle.faults.specs.declared.layers.PortFault.{PortFault}
 use Rattle.faults.specs.declared.layers.PortFault.TheVariants.{Record, Count, Missing}
 use Rattle.port.specs.Limits.{In}
-use Rattle.reading.specs.Reading.{Step, got, fault, byte, number, count, start_stage}
+use Rattle.reading.specs.Reading.{Step, got, fault, byte, number, count, text_length}
 use Rattle.reader.specs.declared.reader.Reader.{Reader}
 use Rattle.reader.specs.Reads.{step, Reads, itself, counted}
 use Rattle.cases_words.specs.Rows.{Said, Row, gives, Shown}
@@ -128,3 +128,10 @@ ReadsSay {E} rows = (r : ReadsRow E) → In r rows → Said r.holds (Reads r.rea
 pub record ReadsHold : Type 0 where
   pub plain : ReadsSay reads
   pub lifted : ReadsSay lifted_reads
+
+-- ── and of all bytes ──
+
+-- a count of the header and the length of a text are such bytes, each with its own fault
+pub record Counts : Type 0 where
+  pub counts : (most p : ℕ) (s : List ℕ) → counted most (Count p) p s ≡ count most p s
+  pub lengths : (p : ℕ) (s : List ℕ) → counted 63 (Missing p) p s ≡ text_length p s

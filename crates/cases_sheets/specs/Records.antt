@@ -1,13 +1,13 @@
 -- What the code's records and drafts say, and how a kind byte is judged.
 use Rattle.std.proofs.Common.{arith}
-use Rattle.std.specs.Prelude.{◌≡◌, ℕ, ◌<◌, ◌≤◌, Bool, true, false, List, [], ◌∷◌, length, codes, Some, Ok, Err, Result}
+use Rattle.std.specs.Prelude.{◌≡◌, ℕ, ◌<◌, ◌≤◌, Bool, true, false, List, [], ◌∷◌, length, codes, Some, Ok, Err, MatchResult, Result}
 use Rattle.std.specs.Borrow.{Bor}
 use Rattle.faults.specs.declared.layers.PortFault.{PortFault}
 use Rattle.faults.specs.declared.layers.PortFault.TheVariants.{Record, Many}
 use Rattle.faults.specs.declared.layers.RecordFault.TheVariants.{Kind as KindFault}
 use Rattle.port.specs.Limits.{In}
 use Rattle.port.specs.Model.{Model, RequestModel}
-use Rattle.reading.specs.Reading.{Head, Entry, condition_entry, move_entry, request_entry}
+use Rattle.reading.specs.Reading.{Step, fault, Head, admitted as admitted_read, Entry, condition_entry, move_entry, request_entry}
 use Rattle.reader.specs.declared.text.SheetText.{SheetText}
 use Rattle.records.specs.declared.kinds.Kind.{Kind}
 use Rattle.records.specs.declared.kinds.Kind.TheVariants.{Condition, Move, Request}
@@ -122,6 +122,11 @@ admissions =
 
 abbrev pub AdmissionsShown : Type 0
 AdmissionsShown = Shown admissions
+
+-- and of any kind byte: it is admitted where the reading goes on, and refused by the reading's fault
+abbrev pub AdmitsAsRead : Type 0
+AdmitsAsRead =
+    (m : Model) (k p : ℕ) (x : Step Head) → MatchResult (admission m k p) (λ _. admitted_read m k p x ≡ x) (λ f. admitted_read m k p x ≡ fault f)
 
 -- ── what records say ──
 

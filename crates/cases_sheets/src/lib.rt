@@ -3,9 +3,9 @@
 #![tactic(auto)]
 
 ghost use Rattle.cases_sheets.specs.Drafts.{DraftsShown};
-ghost use Rattle.cases_sheets.specs.Loads.{HoldingsHold, LoadsHold, TellsHold};
-ghost use Rattle.cases_sheets.specs.Readers.{ItselfShown, ReadsHold, StepsShown};
-ghost use Rattle.cases_sheets.specs.Records.{AdmissionsShown, DecodingsHold, EntriesShown, HeadsShown, KindsShown, RequestsShown};
+ghost use Rattle.cases_sheets.specs.Loads.{HoldingsHold, LoadsHold, OneAnswer, TellsHold};
+ghost use Rattle.cases_sheets.specs.Readers.{Counts, ItselfShown, ReadsHold, StepsShown};
+ghost use Rattle.cases_sheets.specs.Records.{AdmissionsShown, AdmitsAsRead, DecodingsHold, EntriesShown, HeadsShown, KindsShown, RequestsShown};
 
 // The answer that tells what is read.
 pub fn tells_stand() -> bool
@@ -94,6 +94,27 @@ pub fn reads_stand() -> bool
 // What a draft says.
 pub fn drafts_stand() -> bool
     ensures { DraftsShown }
+{
+    true
+}
+
+// A sheet has one answer, but for want of memory.
+pub fn one_answer_stands() -> bool
+    ensures { OneAnswer }
+{
+    true
+}
+
+// A kind byte is judged as the reading judges it.
+pub fn admits_stands() -> bool
+    ensures { AdmitsAsRead }
+{
+    true
+}
+
+// Counts and lengths are bytes from 1 to a limit.
+pub fn counts_stand() -> bool
+    ensures { Counts }
 {
     true
 }
