@@ -1,7 +1,7 @@
 -- The rows of loads.
-use Rattle.std.proofs.Common.{◌≡◌, ℕ, Bool, true, false, cond, ◌&&◌, List, [], ◌∷◌, ◌++◌, map, Ok, Err, Result, sym, refl, ap, ◌∙◌}
+use Rattle.std.proofs.Common.{◌≡◌, ℕ, ◌≤◌, Bool, true, false, cond, ◌&&◌, eqb, List, [], ◌∷◌, ◌++◌, map, Ok, Err, Result, sym, refl, ap, ◌∙◌, arith, eqb-true, eq-eqb}
 use mathlib.Core.Bool.{and-eq-true_iff, false≢true}
-use Rattle.std.specs.Global.{Global}
+use Rattle.std.specs.Global.{Global, Vec}
 use Rattle.formula.specs.Grammar.{step, goes, verdict}
 use Rattle.faults.specs.declared.errors.LoadError.{LoadError}
 use Rattle.faults.specs.declared.errors.LoadError.TheVariants.{Fault, Memory}
@@ -18,7 +18,7 @@ use Rattle.cases_words.proofs.Fields.{fault_code}
 use Rattle.cases_words.proofs.Held.{same_limits}
 use Rattle.cases_words.proofs.Ports.{valid, valid_decides}
 use Rattle.cases_words.proofs.Records.{model_code}
-use Rattle.cases_sheets.specs.Loads.{TellsRow, tells, TellsHold, LoadRow, loads, LoadSaid, LoadIs, LoadsHold, HoldsRow, holdings, HoldsIs, HoldingsHold, ComesTo, OneAnswer}
+use Rattle.cases_sheets.specs.Loads.{TellsRow, tells, TellsHold, LoadRow, loads, LoadSaid, LoadIs, LoadsHold, HoldsRow, holdings, HoldsIs, HoldingsHold, ComesTo, OneAnswer, AsItWas}
 use Rattle.cases_sheets.proofs.Rows.{all_same, said_as}
 
 abbrev read_code : Read → List ℕ
@@ -190,3 +190,35 @@ one_answer_of t (refused f n) e before after (Err Memory) l = l
 
 pub one_answer : OneAnswer
 one_answer t before after r l = one_answer_of t (reading t) refl before after r l
+
+-- ── as it was ──
+
+-- room for more conditions than there may be, which is other than this
+abbrev other : ℕ → ℕ
+other c = cond (eqb c 300) 301 300
+
+other_is : (c : ℕ) → ((300 ≤ other c) × (other c ≤ 301)) × (other c ≡ c → ⊥)
+other_is c = go (eqb c 300) refl
+  where
+    go : (b : Bool) → eqb c 300 ≡ b → ((300 ≤ cond b 301 300) × (cond b 301 300 ≤ 301)) × (cond b 301 300 ≡ c → ⊥)
+    go true e = ((omega arith, omega arith), λ h. let k : c ≡ 300 = eqb-true c 300 e in omega (arith, h, k))
+    go false e = ((omega arith, omega arith), λ h. false≢true (sym e ∙ eq-eqb c 300 (sym h)))
+
+-- the port, with other room for its conditions
+roomed : Port → Port
+roomed p =
+    let o = other_is p.conditions.cap in
+    let room : Vec ℕ = record p.conditions { cap = other p.conditions.cap; ok = (p.conditions.ok.0, omega (arith, o.0.0, p.conditions_few)); small = omega (arith, o.0.1) } in
+    record p { conditions = room }
+
+differs : (p : Port) → roomed p ≡ p → ⊥
+unfolding roomed
+differs p e = (other_is p.conditions.cap).1 (ap (λ (q : Port). q.conditions.cap) e)
+
+stays : (t : List ℕ) (b a : Port) (e : LoadError) → Loaded {U = Unit {0}} t b a (Err e) → a ≡ b
+stays t b a (Fault f n) l = l.1
+stays t b a Memory l = l
+
+pub as_it_was : AsItWas
+unfolding roomed
+as_it_was p = record { port = roomed p; same = refl; stays = λ t e l. differs p (stays t p (roomed p) e l) }

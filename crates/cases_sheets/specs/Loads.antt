@@ -172,3 +172,16 @@ ComesTo (refused f n) before after (Err Memory) = after ≡ before
 -- so a sheet has one answer, but for want of memory
 abbrev pub OneAnswer : Type 0
 OneAnswer = (t : List ℕ) (before after : Port) (r : Result (Unit {0}) LoadError) → Loaded t before after r → ComesTo (reading t) before after r
+
+abbrev failed : LoadError → Result (Unit {0}) LoadError
+failed e = Err e
+
+-- as it was: the same port in memory, which is more than a port that says the same. Beside each port there is another that says the same,
+-- and no load without a value goes from the one to the other.
+pub record Another (before : Port) : Type 0 where
+  pub port : Port
+  pub same : model_of port ≡ model_of before
+  pub stays : (t : List ℕ) (e : LoadError) → Loaded t before port (failed e) → ⊥
+
+abbrev pub AsItWas : Type 0
+AsItWas = (before : Port) → Another before

@@ -3,7 +3,7 @@
 #![tactic(auto)]
 
 ghost use Rattle.cases_sheets.specs.Drafts.{DraftsShown};
-ghost use Rattle.cases_sheets.specs.Loads.{HoldingsHold, LoadsHold, OneAnswer, TellsHold};
+ghost use Rattle.cases_sheets.specs.Loads.{AsItWas, HoldingsHold, LoadsHold, OneAnswer, TellsHold};
 ghost use Rattle.cases_sheets.specs.Readers.{Counts, ItselfShown, ReadsHold, StepsShown};
 ghost use Rattle.cases_sheets.specs.Records.{AdmissionsShown, AdmitsAsRead, DecodingsHold, EntriesShown, HeadsShown, KindsShown, RequestsShown};
 
@@ -115,6 +115,13 @@ pub fn admits_stands() -> bool
 // Counts and lengths are bytes from 1 to a limit.
 pub fn counts_stand() -> bool
     ensures { Counts }
+{
+    true
+}
+
+// A load without a value leaves the same port in memory.
+pub fn as_it_was_stands() -> bool
+    ensures { AsItWas }
 {
     true
 }
