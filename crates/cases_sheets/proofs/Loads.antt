@@ -9,7 +9,7 @@ use Rattle.port.specs.declared.held.Port.{Port}
 use Rattle.port.specs.Limits.{In}
 use Rattle.port.specs.Model.{Model, model_of}
 use Rattle.port.specs.Valid.{Valid}
-use Rattle.reading.specs.Reading.{Read, held, refused, same, and_then, provided, byte, bytes, number, field, minutes, text_length, whole_text, judged, text, rises, condition, move, request, admitted, head, body, entry, count, start_stage, opening, heading, add, finish, records, reading}
+use Rattle.reading.specs.Reading.{Read, held, refused, and_then, provided, byte, bytes, number, field, minutes, text_length, whole_text, judged, text, rises, condition, move, request, admitted, head, body, entry, count, start_stage, opening, heading, add, finish, records, reading}
 use Rattle.reading.specs.SheetOf.{joined, sheet_of}
 use Rattle.sheet.specs.Loading.{Tells, Loaded, Holds}
 use Rattle.cases_words.specs.Rows.{Said}
@@ -18,7 +18,7 @@ use Rattle.cases_words.proofs.Fields.{fault_code}
 use Rattle.cases_words.proofs.Held.{same_limits}
 use Rattle.cases_words.proofs.Ports.{valid, valid_decides}
 use Rattle.cases_words.proofs.Records.{model_code}
-use Rattle.cases_sheets.specs.Loads.{TellsRow, tells, TellsHold, LoadRow, loads, LoadSaid, LoadIs, LoadsHold, HoldsRow, holdings, HoldsIs, HoldingsHold, ComesTo, OneAnswer, AsItWas}
+use Rattle.cases_sheets.specs.Loads.{TellsRow, tells, TellsHold, LoadRow, loads, LoadIs, LoadsHold, HoldsRow, holdings, HoldingsHold, ComesTo, OneAnswer, AsItWas}
 use Rattle.cases_sheets.proofs.Rows.{all_same, said_as}
 
 abbrev read_code : Read → List ℕ

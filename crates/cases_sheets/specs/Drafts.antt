@@ -1,6 +1,6 @@
 -- What drafts say: what stands in memory of a port, before every record is read.
 use Rattle.std.proofs.Common.{arith}
-use Rattle.std.specs.Prelude.{◌≡◌, ℕ, ◌<◌, ◌≤◌, List, [], ◌∷◌, length, refl, codes}
+use Rattle.std.specs.Prelude.{ℕ, ◌<◌, ◌≤◌, List, [], ◌∷◌, length, refl, codes}
 use denote.RawPtr.{null_ptr}
 use Rattle.std.specs.Global.{Global, Vec}
 use Rattle.port.specs.declared.Header.{Header}

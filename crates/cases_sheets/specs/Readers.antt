@@ -1,8 +1,7 @@
 -- How a reader goes along: the step that is made where it stands, and what is told of it.
 use Rattle.std.proofs.Common.{arith}
-use Rattle.std.specs.Prelude.{◌≡◌, ℕ, ◌+◌, ◌*◌, ◌^◌, ◌<◌, Bool, true, false, List, [], ◌∷◌, length, Ok, Err, Result}
+use Rattle.std.specs.Prelude.{◌≡◌, ℕ, ◌+◌, ◌^◌, ◌<◌, Bool, true, false, List, [], ◌∷◌, length, Ok, Err, Result}
 use Rattle.std.specs.Borrow.{Bor}
-use Rattle.faults.specs.declared.layers.ByteFault.{ByteFault}
 use Rattle.faults.specs.declared.layers.ByteFault.TheVariants.{Ends}
 use Rattle.faults.specs.declared.layers.RecordFault.{RecordFault}
 use Rattle.faults.specs.declared.layers.RecordFault.TheVariants.{Byte, Absent}
