@@ -1,0 +1,2 @@
+pub mod Sluice
+pub mod Answers

@@ -1,0 +1,12 @@
+// Examples of the definitions of the index, the tables, the search and the rounds: claims that stand and claims that are refuted. Each
+// function stands for the rows of one list, by its contract.
+#![tactic(auto)]
+
+ghost use Rattle.cases_search.specs.Answers.{AnswersSay};
+
+// What plans cost, and what the search answers.
+pub fn answers_stand() -> bool
+    ensures { AnswersSay }
+{
+    true
+}
