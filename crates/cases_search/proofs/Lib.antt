@@ -1,3 +1,4 @@
 pub mod Runs
 pub mod Bounds
 pub mod Answers
+pub mod Verdicts

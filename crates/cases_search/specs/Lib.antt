@@ -1,2 +1,4 @@
 pub mod Sluice
 pub mod Answers
+pub mod Held
+pub mod Verdicts

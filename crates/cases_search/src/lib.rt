@@ -3,10 +3,18 @@
 #![tactic(auto)]
 
 ghost use Rattle.cases_search.specs.Answers.{AnswersSay};
+ghost use Rattle.cases_search.specs.Verdicts.{VerdictsSay};
 
 // What plans cost, and what the search answers.
 pub fn answers_stand() -> bool
     ensures { AnswersSay }
+{
+    true
+}
+
+// What a verdict of the rounds tells.
+pub fn verdicts_stand() -> bool
+    ensures { VerdictsSay }
 {
     true
 }
