@@ -1,4 +1,5 @@
 pub mod Sluice
 pub mod Answers
+pub mod Indexes
 pub mod Held
 pub mod Verdicts

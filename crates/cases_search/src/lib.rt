@@ -3,6 +3,7 @@
 #![tactic(auto)]
 
 ghost use Rattle.cases_search.specs.Answers.{AnswersSay};
+ghost use Rattle.cases_search.specs.Indexes.{ComputedSay, IndexesSay};
 ghost use Rattle.cases_search.specs.Verdicts.{VerdictsSay};
 
 // What plans cost, and what the search answers.
@@ -15,6 +16,20 @@ pub fn answers_stand() -> bool
 // What a verdict of the rounds tells.
 pub fn verdicts_stand() -> bool
     ensures { VerdictsSay }
+{
+    true
+}
+
+// What is computed of moves and tables.
+pub fn computed_stand() -> bool
+    ensures { ComputedSay }
+{
+    true
+}
+
+// The index of moves, and tables of costs.
+pub fn indexes_stand() -> bool
+    ensures { IndexesSay }
 {
     true
 }

@@ -1,0 +1,25 @@
+-- Tests of all numbers below one, and of all items of a list.
+use Rattle.std.proofs.Common.{◌≡◌, ℕ, ◌<◌, ◌≤◌, Bool, true, false, not, ◌||◌, leb, ◌↔◌, List, refl, leb-true, le-leb}
+use mathlib.Core.Bool.{false≢true}
+use Rattle.port.specs.Limits.{In}
+use Rattle.plans.specs.Flags.{every}
+use Rattle.plans.specs.Reach.{each}
+use Rattle.plans.proofs.Decide.{each_in, in_each, implies}
+use Rattle.plans.proofs.Flags.{every_at, at_every}
+
+pub every_iff : {P : ℕ → Type 0} (p : ℕ → Bool) (n : ℕ) → ((i : ℕ) → i < n → (p i ≡ true) ↔ P i) → (every p n ≡ true) ↔ ((i : ℕ) → i < n → P i)
+every_iff p n one = (λ e i l. (one i l).0 (every_at p n e i l), λ h. at_every p n (λ i l. (one i l).1 (h i l)))
+
+pub each_iff : {A : Type 0} {P : A → Type 0} (p : A → Bool) (xs : List A) → ((x : A) → (p x ≡ true) ↔ P x) → (each p xs ≡ true) ↔ ((x : A) → In x xs → P x)
+each_iff p xs one = (λ e x i. (one x).0 (each_in p xs e x i), λ h. in_each p xs (λ x i. (one x).1 (h x i)))
+
+pub at_most : (a b : ℕ) → (leb a b ≡ true) ↔ (a ≤ b)
+at_most a b = (leb-true a b, le-leb a b)
+
+-- where one test passes, something is so
+pub where_iff : {P Q : Type 0} (a b : Bool) → (a ≡ true) ↔ P → (b ≡ true) ↔ Q → ((not a || b) ≡ true) ↔ (P → Q)
+where_iff a b p q = (λ e x. q.0 ((implies a b).0 e (p.1 x)), λ h. (implies a b).1 (λ e. q.1 (h (p.0 e))))
+
+pub not_iff : {P : Type 0} (a : Bool) → (a ≡ true) ↔ P → (not a ≡ true) ↔ (P → ⊥)
+not_iff true p = (λ e. absurd (false≢true e), λ h. absurd (h (p.0 refl)))
+not_iff false p = (λ e x. false≢true (p.1 x), λ h. refl)

@@ -1,0 +1,182 @@
+-- The rows of the index and the tables, by one test.
+use Rattle.std.proofs.Common.{◌≡◌, ℕ, suc, ◌<◌, ◌≤◌, Bool, true, not, ◌&&◌, ◌||◌, eqb, ltb, leb, ◌↔◌, List, length, Some, None, Option, refl, subst, arith}
+use Rattle.port.specs.Limits.{In, at}
+use Rattle.port.specs.declared.Move.{Move}
+use Rattle.plans.specs.Flags.{every}
+use Rattle.plans.specs.Reach.{each}
+use Rattle.index.specs.Indexes.{Timed, Start, flagged, Flags, Ordered, From, Apart}
+use Rattle.tables.specs.Tables.{looked, AllBelow, LeastOf}
+use Rattle.tables.specs.declared.Label.{Label}
+use Rattle.tables.proofs.Options.{some_inj, none_some}
+use Rattle.costs.specs.Compare.{under_of}
+use Rattle.costs.specs.Costs.{Le}
+use Rattle.costs.specs.Models.{moves_model}
+use Rattle.costs.proofs.Order.{was_true}
+use Rattle.cases_plans.proofs.Rows.{right, all_say}
+use Rattle.cases_plans.proofs.Tests.{both, equal, below as less, listed, listed_in}
+use Rattle.cases_plans.proofs.Values.{told, values_say, same_option, option_tells}
+use Rattle.cases_search.specs.Sluice.{moves, one}
+use Rattle.cases_search.specs.Indexes.{known, computed, ComputedSay, Claim, timed, start, flags, ordered, from, apart, below, least, Means, rows, IndexesSay}
+use Rattle.cases_search.proofs.Combine.{every_iff, each_iff, at_most, where_iff, not_iff}
+use Rattle.cases_search.proofs.Runs.{was_so, same_cost, costs_tell}
+
+all_told : told computed ≡ true
+all_told = refl
+
+pub computed_say : ComputedSay
+computed_say = values_say computed all_told
+
+-- ── lists of moves ──
+
+abbrev timed_test : List Move → Bool
+timed_test ms = every (λ i. ltb (at ms i).minutes 65536) (length ms)
+
+timed_decided : (ms : List Move) → (timed_test ms ≡ true) ↔ Timed ms
+timed_decided ms = every_iff (λ i. ltb (at ms i).minutes 65536) (length ms) (λ i l. less (at ms i).minutes 65536)
+
+abbrev behind_test : List Move → ℕ → ℕ → Bool
+behind_test ms c place = every (λ i. ltb (at ms i).condition c) place
+
+abbrev ahead_test : List Move → ℕ → ℕ → Bool
+ahead_test ms c place = every (λ i. not (leb place i) || leb c (at ms i).condition) (length ms)
+
+abbrev start_test : List Move → ℕ → ℕ → Bool
+start_test ms c place = leb place (length ms) && (behind_test ms c place && ahead_test ms c place)
+
+start_decided : (ms : List Move) (c place : ℕ) → (start_test ms c place ≡ true) ↔ Start ms c place
+start_decided ms c place = (
+  λ e. let h = parts.0 e in record { inside = h.0; behind = h.1.0; ahead = λ i g l. h.1.1 i l g },
+  λ s. parts.1 (s.inside, (s.behind, λ i l g. s.ahead i g l)),
+)
+  where
+    ahead : (ahead_test ms c place ≡ true) ↔ ((i : ℕ) → i < length ms → place ≤ i → c ≤ (at ms i).condition)
+    ahead =
+        every_iff (λ i. not (leb place i) || leb c (at ms i).condition) (length ms)
+        (λ i l. where_iff (leb place i) (leb c (at ms i).condition) (at_most place i) (at_most c (at ms i).condition))
+
+    behind : (behind_test ms c place ≡ true) ↔ ((i : ℕ) → i < place → (at ms i).condition < c)
+    behind = every_iff (λ i. ltb (at ms i).condition c) place (λ i l. less (at ms i).condition c)
+
+    parts : (start_test ms c place ≡ true) ↔ ((place ≤ length ms) × (((i : ℕ) → i < place → (at ms i).condition < c) × ((i : ℕ) → i < length ms → place ≤ i → c ≤ (at ms i).condition)))
+    parts =
+        both (leb place (length ms)) (behind_test ms c place && ahead_test ms c place) (at_most place (length ms))
+        (both (behind_test ms c place) (ahead_test ms c place) behind ahead)
+
+abbrev flags_test : List Move → ℕ → List (List Bool) → Bool
+flags_test ms i into = every (λ j. flagged into (at ms j).condition (at ms j).outcome) i
+
+flags_decided : (ms : List Move) (i : ℕ) (into : List (List Bool)) → (flags_test ms i into ≡ true) ↔ Flags ms i into
+flags_decided ms i into = every_iff (λ j. flagged into (at ms j).condition (at ms j).outcome) i (λ j l. (λ e. e, λ e. e))
+
+abbrev pub ordered_test : List Move → Bool
+ordered_test ms = every (λ j. every (λ i. leb (at ms i).operation (at ms j).operation) (suc j)) (length ms)
+
+pub ordered_decided : (ms : List Move) → (ordered_test ms ≡ true) ↔ Ordered ms
+ordered_decided ms = (
+  λ e i j g l. all.0 e j l i (omega (arith, g)),
+  λ o. all.1 (λ j l i g. o i j (omega (arith, g)) l),
+)
+  where
+    all : (ordered_test ms ≡ true) ↔ ((j : ℕ) → j < length ms → (i : ℕ) → i < suc j → (at ms i).operation ≤ (at ms j).operation)
+    all =
+        every_iff (λ j. every (λ i. leb (at ms i).operation (at ms j).operation) (suc j)) (length ms)
+        (λ j l. every_iff (λ i. leb (at ms i).operation (at ms j).operation) (suc j) (λ i g. at_most (at ms i).operation (at ms j).operation))
+
+abbrev are_test : ℕ → List Move → Bool
+are_test c ms = each (λ m. listed m moves && eqb m.condition c) ms
+
+abbrev all_test : ℕ → List Move → Bool
+all_test c ms = each (λ (m : Move). not (eqb m.condition c) || listed m ms) moves
+
+abbrev from_test : ℕ → List Move → Bool
+from_test c ms = are_test c ms && (all_test c ms && ordered_test ms)
+
+from_decided : (c : ℕ) (ms : List Move) → (from_test c ms ≡ true) ↔ From moves c ms
+from_decided c ms = (
+  λ e. let h = parts.0 e in record { are = h.0; all = h.1.0; ordered = h.1.1 },
+  λ f. parts.1 (f.are, (f.all, f.ordered)),
+)
+  where
+    are : (are_test c ms ≡ true) ↔ ((m : Move) → In m ms → In m moves × (m.condition ≡ c))
+    are = each_iff (λ m. listed m moves && eqb m.condition c) ms (λ m. both (listed m moves) (eqb m.condition c) (listed_in m moves) (equal m.condition c))
+
+    all : (all_test c ms ≡ true) ↔ ((m : Move) → In m moves → m.condition ≡ c → In m ms)
+    all = each_iff (λ (m : Move). not (eqb m.condition c) || listed m ms) moves (λ m. where_iff (eqb m.condition c) (listed m ms) (equal m.condition c) (listed_in m ms))
+
+    parts : (from_test c ms ≡ true) ↔ (((m : Move) → In m ms → In m moves × (m.condition ≡ c)) × (((m : Move) → In m moves → m.condition ≡ c → In m ms) × Ordered ms))
+    parts = both (are_test c ms) (all_test c ms && ordered_test ms) are (both (all_test c ms) (ordered_test ms) all (ordered_decided ms))
+
+abbrev apart_test : ℕ → ℕ → Bool
+apart_test c d = each (λ (m : Move). not (eqb m.condition c) || not (eqb m.outcome d)) moves
+
+apart_decided : (c d : ℕ) → (apart_test c d ≡ true) ↔ Apart moves c d
+apart_decided c d =
+    each_iff (λ (m : Move). not (eqb m.condition c) || not (eqb m.outcome d)) moves
+    (λ m. where_iff (eqb m.condition c) (not (eqb m.outcome d)) (equal m.condition c) (not_iff (eqb m.outcome d) (equal m.outcome d)))
+
+-- ── tables ──
+
+abbrev under : ℕ → Move → Bool
+under f m = under_of moves_model (looked one known m.outcome) (Some (one f))
+
+below_decided : (ms : List Move) (f : ℕ) → (each (under f) ms ≡ true) ↔ AllBelow moves_model (looked one known) ms (one f)
+below_decided ms f = each_iff (under f) ms (λ m. (λ e. e, λ e. e))
+
+-- nothing is looked up that is less
+abbrev no_less : ℕ → Option (List ℕ) → Bool
+no_less x None = true
+no_less x (Some g) = moves_model.within (one x) g
+
+no_less_iff : (x : ℕ) (y : Option (List ℕ)) → (no_less x y ≡ true) ↔ ((g : List ℕ) → y ≡ Some g → Le moves_model (one x) g)
+no_less_iff x None = (λ e g q. absurd (none_some q), λ h. refl)
+no_less_iff x (Some b) = (λ e g q. subst (Le moves_model (one x)) (some_inj q) (was_true e), λ h. was_so (moves_model.within (one x) b) (h b refl))
+
+abbrev least_test : List (Option ℕ) → ℕ → Option (Label ℕ) → Bool
+least_test t i None = every (λ c. same_option same_cost (looked one t c) None) i
+least_test t i (Some b) =
+    ltb b.condition i && (same_option same_cost (looked one t b.condition) (Some (one b.cost)) && every (λ c. no_less b.cost (looked one t c)) i)
+
+least_decided : (t : List (Option ℕ)) (i : ℕ) (b : Option (Label ℕ)) → (least_test t i b ≡ true) ↔ LeastOf moves_model one t i b
+least_decided t i None = every_iff (λ c. same_option same_cost (looked one t c) None) i (λ c l. option_tells same_cost costs_tell (looked one t c) None)
+least_decided t i (Some b) = (
+  λ e. let h = parts.0 e in (h.0, h.1.0, λ c g l. h.1.1 c l g),
+  λ h. parts.1 (h.0, (h.1, λ c l g. h.2 c g l)),
+)
+  where
+    Rest : Type 0
+    Rest = (c : ℕ) → c < i → (g : List ℕ) → looked one t c ≡ Some g → Le moves_model (one b.cost) g
+
+    parts : (least_test t i (Some b) ≡ true) ↔ ((b.condition < i) × ((looked one t b.condition ≡ Some (one b.cost)) × Rest))
+    parts =
+        both (ltb b.condition i) (same_option same_cost (looked one t b.condition) (Some (one b.cost)) && every (λ c. no_less b.cost (looked one t c)) i) (less b.condition i)
+        (both (same_option same_cost (looked one t b.condition) (Some (one b.cost))) (every (λ c. no_less b.cost (looked one t c)) i)
+        (option_tells same_cost costs_tell (looked one t b.condition) (Some (one b.cost)))
+        (every_iff (λ c. no_less b.cost (looked one t c)) i (λ c l. no_less_iff b.cost (looked one t c))))
+
+-- ── the rows ──
+
+abbrev test : Claim → Bool
+test (timed ms) = timed_test ms
+test (start ms c place) = start_test ms c place
+test (flags ms i into) = flags_test ms i into
+test (ordered ms) = ordered_test ms
+test (from c ms) = from_test c ms
+test (apart c d) = apart_test c d
+test (below ms f) = each (under f) ms
+test (least t i b) = least_test t i b
+
+decided : (x : Claim) → (test x ≡ true) ↔ Means x
+decided (timed ms) = timed_decided ms
+decided (start ms c place) = start_decided ms c place
+decided (flags ms i into) = flags_decided ms i into
+decided (ordered ms) = ordered_decided ms
+decided (from c ms) = from_decided c ms
+decided (apart c d) = apart_decided c d
+decided (below ms f) = below_decided ms f
+decided (least t i b) = least_decided t i b
+
+all_right : each (right (λ x. true) test) rows ≡ true
+all_right = refl
+
+pub indexes_say : IndexesSay
+indexes_say = all_say Means (λ x. true) test (λ x e. decided x) rows all_right
