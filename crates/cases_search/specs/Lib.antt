@@ -1,5 +1,6 @@
 pub mod Sluice
 pub mod Answers
+pub mod Labels
 pub mod Indexes
 pub mod Held
 pub mod Verdicts

@@ -4,6 +4,7 @@
 
 ghost use Rattle.cases_search.specs.Answers.{AnswersSay};
 ghost use Rattle.cases_search.specs.Indexes.{ComputedSay, IndexesSay};
+ghost use Rattle.cases_search.specs.Labels.{CountsSay, LabelsSay};
 ghost use Rattle.cases_search.specs.Verdicts.{VerdictsSay};
 
 // What plans cost, and what the search answers.
@@ -30,6 +31,20 @@ pub fn computed_stand() -> bool
 // The index of moves, and tables of costs.
 pub fn indexes_stand() -> bool
     ensures { IndexesSay }
+{
+    true
+}
+
+// What the search keeps, and what groups of moves come to.
+pub fn labels_stand() -> bool
+    ensures { LabelsSay }
+{
+    true
+}
+
+// How many conditions have a cost.
+pub fn counts_stand() -> bool
+    ensures { CountsSay }
 {
     true
 }
