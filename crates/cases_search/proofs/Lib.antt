@@ -5,4 +5,5 @@ pub mod Combine
 pub mod Indexes
 pub mod Worsts
 pub mod Labels
+pub mod Tasks
 pub mod Verdicts

@@ -3,4 +3,5 @@ pub mod Answers
 pub mod Labels
 pub mod Indexes
 pub mod Held
+pub mod Tasks
 pub mod Verdicts

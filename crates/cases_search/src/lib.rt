@@ -5,6 +5,7 @@
 ghost use Rattle.cases_search.specs.Answers.{AnswersSay};
 ghost use Rattle.cases_search.specs.Indexes.{ComputedSay, IndexesSay};
 ghost use Rattle.cases_search.specs.Labels.{CountsSay, LabelsSay};
+ghost use Rattle.cases_search.specs.Tasks.{TasksComputedSay, TasksSay};
 ghost use Rattle.cases_search.specs.Verdicts.{VerdictsSay};
 
 // What plans cost, and what the search answers.
@@ -45,6 +46,20 @@ pub fn labels_stand() -> bool
 // How many conditions have a cost.
 pub fn counts_stand() -> bool
     ensures { CountsSay }
+{
+    true
+}
+
+// What is computed of rows of flags and of choices.
+pub fn tasks_computed_stand() -> bool
+    ensures { TasksComputedSay }
+{
+    true
+}
+
+// What a task of the rounds holds.
+pub fn tasks_stand() -> bool
+    ensures { TasksSay }
 {
     true
 }
