@@ -30,7 +30,7 @@ all_told = refl
 pub counts_say : CountsSay
 counts_say = values_say counts all_told
 
-sized_in : (t : List (Option Time)) → AllSized minutes_model (costs_in t)
+pub sized_in : (t : List (Option Time)) → AllSized minutes_model (costs_in t)
 sized_in t = looked_sized minutes_model time_list time_sized t
 
 or_iff : {P Q : Type 0} (a b : Bool) → (a ≡ true) ↔ P → (b ≡ true) ↔ Q → ((a || b) ≡ true) ↔ (P ⊎ Q)
@@ -48,10 +48,10 @@ any m = true
 abbrev op : ℕ → Move → Bool
 op o m = eqb m.operation o
 
-op_named : (o : ℕ) (m : Move) → op o m ≡ true → m.operation ≡ o
+pub op_named : (o : ℕ) (m : Move) → op o m ≡ true → m.operation ≡ o
 op_named o m e = eqb-true m.operation o e
 
-fits_named : (c o : ℕ) (m : Move) → fits c o m ≡ true → m.operation ≡ o
+pub fits_named : (c o : ℕ) (m : Move) → fits c o m ≡ true → m.operation ≡ o
 fits_named c o m e = let f = fits_parts c o m e in f.1
 
 module _ (V : ℕ → Option (List ℕ)) where
@@ -64,10 +64,10 @@ module _ (V : ℕ → Option (List ℕ)) where
   listed_from : (ms : List Move) (f : List ℕ) → Worsts (λ m. In m ms) f → Worsts (Of V ms any) f
   listed_from ms f w = worst_map (λ m i. (i, refl)) (λ m h. h.0) w
 
-  can_to : (c o : ℕ) (f : List ℕ) → Worsts (Of V moves (fits c o)) f → Worsts (Can moves c o) f
+  pub can_to : (c o : ℕ) (f : List ℕ) → Worsts (Of V moves (fits c o)) f → Worsts (Can moves c o) f
   can_to c o f w = worst_map (λ m h. let g = fits_parts c o m h.1 in (h.0, g.0, g.1)) (λ m can. (can.0, fits_true c o m can.1 can.2)) w
 
-  can_from : (c o : ℕ) (f : List ℕ) → Worsts (Can moves c o) f → Worsts (Of V moves (fits c o)) f
+  pub can_from : (c o : ℕ) (f : List ℕ) → Worsts (Can moves c o) f → Worsts (Of V moves (fits c o)) f
   can_from c o f w = worst_map (λ m can. (can.0, fits_true c o m can.1 can.2)) (λ m h. let g = fits_parts c o m h.1 in (h.0, g.0, g.1)) w
 
   by_to : (ms : List Move) (o : ℕ) (f : List ℕ) → Worsts (Of V ms (op o)) f → Worsts (By ms o) f
@@ -112,11 +112,11 @@ module _ (V : ℕ → Option (List ℕ)) where
   none_there : (x : Option (List ℕ)) → (same_option same_cost x None ≡ true) ↔ (x ≡ None)
   none_there x = option_tells same_cost costs_tell x None
 
-  abbrev offered_test : (ℕ → Bool) → ℕ → Option (List ℕ) → Bool
+  abbrev pub offered_test : (ℕ → Bool) → ℕ → Option (List ℕ) → Bool
   offered_test keep c None = not (same_option same_cost (V c) None) || (not (keep c) || cheapest_test c None)
   offered_test keep c (Some f) = same_option same_cost (V c) None && (keep c && cheapest_test c (Some f))
 
-  offered_decided : AllSized minutes_model V → (keep : ℕ → Bool) (c : ℕ) (x : Option (List ℕ)) → all_found V moves (fits c) (fits_named c) ≡ true →
+  pub offered_decided : AllSized minutes_model V → (keep : ℕ → Bool) (c : ℕ) (x : Option (List ℕ)) → all_found V moves (fits c) (fits_named c) ≡ true →
       (offered_test keep c x ≡ true) ↔ Offered minutes_model moves keep V c x
   offered_decided sized keep c None e =
       where_iff (same_option same_cost (V c) None) (not (keep c) || cheapest_test c None) (none_there (V c))
@@ -287,7 +287,7 @@ test (left ms rest) = left_test ms rest
 test (lowered t ms rest x) = lowered_test (costs_in t) ms rest x
 test (unmet t ms rest f) = unmet_test (costs_in t) ms rest f
 
-worst_in : (t : List (Option Time)) (c o : ℕ) (f : List ℕ) → (worst_test (costs_in t) moves (fits c o) f ≡ true) ↔ Worst minutes_model (After (costs_in t)) (Can moves c o) f
+pub worst_in : (t : List (Option Time)) (c o : ℕ) (f : List ℕ) → (worst_test (costs_in t) moves (fits c o) f ≡ true) ↔ Worst minutes_model (After (costs_in t)) (Can moves c o) f
 worst_in t c o f =
     let one = worst_decided (costs_in t) moves (fits c o) f in
     (λ h. can_to (costs_in t) c o f (one.0 h), λ w. one.1 (can_from (costs_in t) c o f w))

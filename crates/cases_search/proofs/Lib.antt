@@ -5,5 +5,6 @@ pub mod Combine
 pub mod Indexes
 pub mod Worsts
 pub mod Labels
+pub mod Steps
 pub mod Tasks
 pub mod Verdicts

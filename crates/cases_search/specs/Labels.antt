@@ -54,17 +54,17 @@ Means (left ms rest) = Left ms rest
 Means (lowered t ms rest x) = Lowered minutes_model (costs_in t) ms rest x
 Means (unmet t ms rest f) = Unmet minutes_model (costs_in t) ms rest f
 
-abbrev time : ℕ → ℕ → Option Time
+abbrev pub time : ℕ → ℕ → Option Time
 time minutes moves = Some (record { minutes = minutes; moves = moves })
 
 -- tables on the way to be high: at first, and when half full is final too; and one where stuck will do as well
-abbrev first : List (Option Time)
+abbrev pub first : List (Option Time)
 first = None ∷ None ∷ time 0 0 ∷ None ∷ []
 
-abbrev second : List (Option Time)
+abbrev pub second : List (Option Time)
 second = None ∷ time 2 1 ∷ time 0 0 ∷ None ∷ []
 
-abbrev stuck_too : List (Option Time)
+abbrev pub stuck_too : List (Option Time)
 stuck_too = None ∷ None ∷ time 0 0 ∷ time 0 0 ∷ []
 
 -- the moves from low

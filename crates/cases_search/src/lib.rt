@@ -5,6 +5,7 @@
 ghost use Rattle.cases_search.specs.Answers.{AnswersSay};
 ghost use Rattle.cases_search.specs.Indexes.{ComputedSay, IndexesSay};
 ghost use Rattle.cases_search.specs.Labels.{CountsSay, LabelsSay};
+ghost use Rattle.cases_search.specs.Steps.{StartsSay, StepsSay};
 ghost use Rattle.cases_search.specs.Tasks.{TasksComputedSay, TasksSay};
 ghost use Rattle.cases_search.specs.Verdicts.{VerdictsSay};
 
@@ -60,6 +61,20 @@ pub fn tasks_computed_stand() -> bool
 // What a task of the rounds holds.
 pub fn tasks_stand() -> bool
     ensures { TasksSay }
+{
+    true
+}
+
+// What conditions cost at first.
+pub fn starts_stand() -> bool
+    ensures { StartsSay }
+{
+    true
+}
+
+// What the steps of the search do.
+pub fn steps_stand() -> bool
+    ensures { StepsSay }
 {
     true
 }
