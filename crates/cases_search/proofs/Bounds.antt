@@ -31,7 +31,7 @@ module _ (k : Model) (n : ℕ) (moves : List Move) (keep goal : ℕ → Bool) (a
   told c = slice_index_or answers c Nothing
 
   -- the cost that an answer tells
-  abbrev worth : Choice (List ℕ) → Option (List ℕ)
+  abbrev pub worth : Choice (List ℕ) → Option (List ℕ)
   worth Nothing = None
   worth There = Some k.zero
   worth (Work o f) = Some f
@@ -89,7 +89,7 @@ module _ (k : Model) (n : ℕ) (moves : List Move) (keep goal : ℕ → Bool) (a
     right c l = ((and-eq-true_iff (low_test c) (right_test c (told c))).0 (every_at (λ c. low_test c && right_test c (told c)) n tested c l)).1
 
     -- some run of the plan costs at least what the answer tells
-    abbrev Bound : Plan → ℕ → List ℕ → Type 0
+    abbrev pub Bound : Plan → ℕ → List ℕ → Type 0
     Bound p c a = (value c ≡ Some a) × Sized k a × ((ms : List Move) × IsRun moves p c ms × Le k a (cost k ms))
 
     at_goal : (x : Option (List ℕ)) → starts x ≡ true → (a : List ℕ) × ((x ≡ Some a) × Sized k a × Le k a k.zero)
@@ -136,7 +136,7 @@ module _ (k : Model) (n : ℕ) (moves : List Move) (keep goal : ℕ → Bool) (a
           ),
         )
 
-    bound : (p : Plan) (c : ℕ) → c < n → Attains moves keep goal p c → (a : List ℕ) × Bound p c a
+    pub bound : (p : Plan) (c : ℕ) → c < n → Attains moves keep goal p c → (a : List ℕ) × Bound p c a
     bound stop c l a =
         let h = at_goal (value c) ((implies (goal c) (starts (value c))).0 ((and-eq-true_iff (not (goal c) || starts (value c)) (each (test c) moves)).0 (low c l)).0 (a.1 [] tt).1) in
         (h.0, (h.1.0, h.1.1, ([], tt, h.1.2)))

@@ -6,5 +6,6 @@ pub mod Indexes
 pub mod Worsts
 pub mod Labels
 pub mod Steps
+pub mod Least
 pub mod Tasks
 pub mod Verdicts

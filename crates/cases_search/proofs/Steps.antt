@@ -32,7 +32,7 @@ pub starts_say : StartsSay
 starts_say = values_say starts all_told
 
 -- a cost that is there passes, whatever it is
-only_iff : {P : List ℕ → Type 0} (p : List ℕ → Bool) → ((a : List ℕ) → (p a ≡ true) ↔ P a) → (x : Option (List ℕ)) → (only p x ≡ true) ↔ ((f : List ℕ) → x ≡ Some f → P f)
+pub only_iff : {P : List ℕ → Type 0} (p : List ℕ → Bool) → ((a : List ℕ) → (p a ≡ true) ↔ P a) → (x : Option (List ℕ)) → (only p x ≡ true) ↔ ((f : List ℕ) → x ≡ Some f → P f)
 only_iff p one None = (λ e f q. absurd (none_some q), λ h. refl)
 only_iff {P} p one (Some a) = (λ e f q. subst P (some_inj q) ((one a).0 e), λ h. (one a).1 (h a refl))
 

@@ -2,6 +2,7 @@ pub mod Sluice
 pub mod Answers
 pub mod Labels
 pub mod Steps
+pub mod Least
 pub mod Indexes
 pub mod Held
 pub mod Tasks

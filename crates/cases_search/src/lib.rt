@@ -5,6 +5,7 @@
 ghost use Rattle.cases_search.specs.Answers.{AnswersSay};
 ghost use Rattle.cases_search.specs.Indexes.{ComputedSay, IndexesSay};
 ghost use Rattle.cases_search.specs.Labels.{CountsSay, LabelsSay};
+ghost use Rattle.cases_search.specs.Least.{LeastSay};
 ghost use Rattle.cases_search.specs.Steps.{StartsSay, StepsSay};
 ghost use Rattle.cases_search.specs.Tasks.{TasksComputedSay, TasksSay};
 ghost use Rattle.cases_search.specs.Verdicts.{VerdictsSay};
@@ -75,6 +76,13 @@ pub fn starts_stand() -> bool
 // What the steps of the search do.
 pub fn steps_stand() -> bool
     ensures { StepsSay }
+{
+    true
+}
+
+// What each plan costs at least.
+pub fn least_stand() -> bool
+    ensures { LeastSay }
 {
     true
 }
