@@ -5,6 +5,7 @@ pub mod Combine
 pub mod Indexes
 pub mod Worsts
 pub mod Labels
+pub mod Few
 pub mod Steps
 pub mod Least
 pub mod Tasks

@@ -1,6 +1,7 @@
 pub mod Sluice
 pub mod Answers
 pub mod Labels
+pub mod Few
 pub mod Steps
 pub mod Least
 pub mod Indexes
