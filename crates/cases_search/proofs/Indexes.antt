@@ -1,10 +1,10 @@
 -- The rows of the index and the tables, by one test.
-use Rattle.std.proofs.Common.{◌≡◌, ℕ, suc, ◌<◌, ◌≤◌, Bool, true, not, ◌&&◌, ◌||◌, eqb, ltb, leb, ◌↔◌, List, length, Some, None, Option, refl, subst, arith}
+use Rattle.std.proofs.Common.{◌≡◌, ℕ, zero, suc, ◌<◌, ◌≤◌, Bool, true, not, ◌&&◌, ◌||◌, eqb, ltb, leb, ◌↔◌, List, [], ◌∷◌, length, map, slice_index_or, Bor, Some, None, Option, sym, refl, ◌∙◌, subst, arith, leb-true}
 use Rattle.port.specs.Limits.{In, at}
 use Rattle.port.specs.declared.Move.{Move}
 use Rattle.plans.specs.Flags.{every}
 use Rattle.plans.specs.Reach.{each}
-use Rattle.index.specs.Indexes.{Timed, Start, flagged, Flags, Ordered, From, Apart}
+use Rattle.index.specs.Indexes.{Timed, Start, flagged, Flags, Ordered, From, Apart, Rows, row}
 use Rattle.tables.specs.Tables.{looked, AllBelow, LeastOf}
 use Rattle.tables.specs.declared.Label.{Label}
 use Rattle.tables.proofs.Options.{some_inj, none_some}
@@ -13,10 +13,10 @@ use Rattle.costs.specs.Costs.{Le}
 use Rattle.costs.specs.Models.{moves_model}
 use Rattle.costs.proofs.Order.{was_true}
 use Rattle.cases_plans.proofs.Rows.{right, all_say}
-use Rattle.cases_plans.proofs.Tests.{both, equal, below as less, listed, listed_in}
-use Rattle.cases_plans.proofs.Values.{told, values_say, same_option, option_tells}
+use Rattle.cases_plans.proofs.Tests.{both, equal, below as less, listed, listed_in, same_move, same_moves}
+use Rattle.cases_plans.proofs.Values.{told, values_say, same_option, option_tells, same_list, list_tells}
 use Rattle.cases_search.specs.Sluice.{moves, one}
-use Rattle.cases_search.specs.Indexes.{known, computed, ComputedSay, Claim, timed, start, flags, ordered, from, apart, below, least, Means, rows, IndexesSay}
+use Rattle.cases_search.specs.Indexes.{known, computed, ComputedSay, Claim, timed, start, flags, ordered, from, apart, rows_for, lent, below, least, Means, rows, IndexesSay}
 use Rattle.cases_search.proofs.Combine.{every_iff, each_iff, at_most, where_iff, not_iff}
 use Rattle.cases_search.proofs.Runs.{was_so, same_cost, costs_tell}
 
@@ -114,6 +114,23 @@ apart_decided c d =
     each_iff (λ (m : Move). not (eqb m.condition c) || not (eqb m.outcome d)) moves
     (λ m. where_iff (eqb m.condition c) (not (eqb m.outcome d)) (equal m.condition c) (not_iff (eqb m.outcome d) (equal m.outcome d)))
 
+at_lent : (rs : List (List Move)) (c : ℕ) (r : Bor (List Move)) → c < length rs → (slice_index_or (map lent rs) c r).now ≡ slice_index_or rs c []
+at_lent [] c r l = absurd (omega (arith, l))
+at_lent (x ∷ rs) zero r l = refl
+at_lent (x ∷ rs) (suc c) r l = at_lent rs c r (omega (arith, l))
+
+abbrev same_row : List (List Move) → ℕ → Bool
+same_row rs c = same_list same_move (slice_index_or rs c []) (row c moves)
+
+rows_decided : (n : ℕ) (rs : List (List Move)) → n ≤ length rs → (every (same_row rs) n ≡ true) ↔ Rows n moves (map lent rs)
+rows_decided n rs few = (
+  λ e c r l. at_lent rs c r (omega (arith, l, few)) ∙ all.0 e c l,
+  λ h. all.1 (λ c l. sym (at_lent rs c (lent []) (omega (arith, l, few))) ∙ h c (lent []) l),
+)
+  where
+    all : (every (same_row rs) n ≡ true) ↔ ((c : ℕ) → c < n → slice_index_or rs c [] ≡ row c moves)
+    all = every_iff (same_row rs) n (λ c l. list_tells same_move same_moves (slice_index_or rs c []) (row c moves))
+
 -- ── tables ──
 
 abbrev under : ℕ → Move → Bool
@@ -155,6 +172,11 @@ least_decided t i (Some b) = (
 
 -- ── the rows ──
 
+-- what the test decides: rows that are there
+abbrev decides : Claim → Bool
+decides (rows_for n rs) = leb n (length rs)
+decides x = true
+
 abbrev test : Claim → Bool
 test (timed ms) = timed_test ms
 test (start ms c place) = start_test ms c place
@@ -162,21 +184,23 @@ test (flags ms i into) = flags_test ms i into
 test (ordered ms) = ordered_test ms
 test (from c ms) = from_test c ms
 test (apart c d) = apart_test c d
+test (rows_for n rs) = every (same_row rs) n
 test (below ms f) = each (under f) ms
 test (least t i b) = least_test t i b
 
-decided : (x : Claim) → (test x ≡ true) ↔ Means x
-decided (timed ms) = timed_decided ms
-decided (start ms c place) = start_decided ms c place
-decided (flags ms i into) = flags_decided ms i into
-decided (ordered ms) = ordered_decided ms
-decided (from c ms) = from_decided c ms
-decided (apart c d) = apart_decided c d
-decided (below ms f) = below_decided ms f
-decided (least t i b) = least_decided t i b
+decided : (x : Claim) → decides x ≡ true → (test x ≡ true) ↔ Means x
+decided (timed ms) e = timed_decided ms
+decided (start ms c place) e = start_decided ms c place
+decided (flags ms i into) e = flags_decided ms i into
+decided (ordered ms) e = ordered_decided ms
+decided (from c ms) e = from_decided c ms
+decided (apart c d) e = apart_decided c d
+decided (rows_for n rs) e = rows_decided n rs (leb-true n (length rs) e)
+decided (below ms f) e = below_decided ms f
+decided (least t i b) e = least_decided t i b
 
-all_right : each (right (λ x. true) test) rows ≡ true
+all_right : each (right decides test) rows ≡ true
 all_right = refl
 
 pub indexes_say : IndexesSay
-indexes_say = all_say Means (λ x. true) test (λ x e. decided x) rows all_right
+indexes_say = all_say Means decides test decided rows all_right

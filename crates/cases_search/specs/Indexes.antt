@@ -1,7 +1,8 @@
 -- Examples of the index of moves, and of tables of costs.
-use Rattle.std.specs.Prelude.{ℕ, Bool, true, false, List, [], ◌∷◌, Some, None, Option}
+use Rattle.std.specs.Prelude.{ℕ, Bool, true, false, List, [], ◌∷◌, Some, None, Option, map}
+use Rattle.std.specs.Borrow.{Bor}
 use Rattle.port.specs.declared.Move.{Move}
-use Rattle.index.specs.Indexes.{Timed, Start, row, flagged, Flags, Ordered, From, Apart}
+use Rattle.index.specs.Indexes.{Timed, Start, row, flagged, Flags, Ordered, From, Apart, Rows}
 use Rattle.tables.specs.Tables.{looked, AllBelow, LeastOf}
 use Rattle.tables.specs.declared.Label.{Label}
 use Rattle.costs.specs.Models.{moves_model}
@@ -63,10 +64,16 @@ pub data Claim : Type 0 where
   -- the moves from a condition; no move leads from one condition to another
   from : ℕ → List Move → Claim
   apart : (c d : ℕ) → Claim
+  -- rows for the first n conditions
+  rows_for : ℕ → List (List Move) → Claim
   -- each move leads to what costs less, by the known costs
   below : List Move → ℕ → Claim
   -- the least of the first i offers of a table
   least : List (Option ℕ) → ℕ → Option (Label ℕ) → Claim
+
+-- a list of moves that is lent
+abbrev pub lent : List Move → Bor (List Move)
+lent ms = record { ref_ptr = (0, 0); now = ms }
 
 abbrev pub Means : Claim → Type 0
 Means (timed ms) = Timed ms
@@ -75,6 +82,7 @@ Means (flags ms i rows) = Flags ms i rows
 Means (ordered ms) = Ordered ms
 Means (from c ms) = From moves c ms
 Means (apart c d) = Apart moves c d
+Means (rows_for n rs) = Rows n moves (map lent rs)
 Means (below ms f) = AllBelow moves_model (looked one known) ms (one f)
 Means (least t i b) = LeastOf moves_model one t i b
 
@@ -126,6 +134,11 @@ rows =
     holds (apart 3 0) ∷
     fails (apart 0 3) ∷
     fails (apart 2 0) ∷
+    -- Rows: for each of the first conditions its row
+    holds (rows_for 2 ((fill ∷ lift ∷ hoist ∷ jam ∷ heave ∷ []) ∷ (top ∷ drop ∷ []) ∷ [])) ∷
+    holds (rows_for 0 ([] ∷ [])) ∷
+    fails (rows_for 1 ([] ∷ [])) ∷
+    fails (rows_for 2 ((fill ∷ lift ∷ hoist ∷ jam ∷ heave ∷ []) ∷ (drop ∷ top ∷ []) ∷ [])) ∷
     -- AllBelow: each outcome has a cost, and it is less
     holds (below (lift ∷ jam ∷ []) 2) ∷
     holds (below [] 0) ∷
