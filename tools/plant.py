@@ -4,9 +4,10 @@
     python3 tools/plant.py CRATE COUNT SEED
 
 Works on a copy of the repository, in which the crate has no must-fail edits but the planted ones; `rt must-fail` tries them there. A
-plant changes one line of a function's body: a comparison, a sum, an argument, a constant, a field, a call that is left out. One that
-does not compile is not counted. A plant that is let through is printed with its line: the contract says too little, or the change
-means nothing that a caller can see."""
+plant changes one line of a function's body: a comparison, a sum, an argument, a constant, a field, an assignment that is left out. Only a
+line that stands once in its file is changed. A plant that does not compile is not counted as refused, and of those refused it is told how
+many are so only because a name went that a written answer uses, which says little. A plant that is let through is printed with its line:
+the contract says too little, or the change means nothing that a caller can see."""
 import os
 import random
 import re
@@ -104,7 +105,7 @@ def main():
         chosen = all_plants[:count]
         write_edits(crate, chosen)
         done = subprocess.run(["rt", "must-fail", name], cwd=copy, stdout=subprocess.PIPE, stderr=subprocess.STDOUT, text=True)
-    refused = let_through = broken = 0
+    refused = by_name = let_through = broken = 0
     for line in done.stdout.splitlines():
         match = re.match(rf"rt: must-fail {name}/plant(\d+)\.edit: (.*)", line)
         if not match:
@@ -112,12 +113,13 @@ def main():
         path, old, new = chosen[int(match.group(1))]
         if match.group(2).startswith("refused"):
             refused += 1
+            by_name += "only because a proof file names" in match.group(2)
         elif "BAD" in match.group(2) or "cannot" in match.group(2):
             broken += 1
         else:
             let_through += 1
             print(f"let through: {name}/{path}\n    {old}\n    {new}\n    {match.group(2)[:120]}")
-    print(f"{name}: of {len(all_plants)} plants {len(chosen)} tried: {refused} refused, {let_through} let through, {broken} do not compile")
+    print(f"{name}: of {len(all_plants)} plants {len(chosen)} tried: {refused} refused ({by_name} only because a name went), {let_through} let through, {broken} do not compile")
 
 
 main()
