@@ -1,5 +1,5 @@
 -- What a cost model is: exact costs are lists of whole numbers, one for each column.
-use Rattle.std.specs.Prelude.{◌≡◌, ℕ, ◌<◌, ◌≤◌, Bool, T, ◌⊎◌, List, [], ◌∷◌, length}
+use Rattle.std.specs.Prelude.{◌≡◌, ℕ, ◌-◌, ◌<◌, ◌≤◌, Bool, T, ◌⊎◌, List, [], ◌∷◌, length}
 use Rattle.port.specs.declared.Move.{Move}
 
 -- exact costs: how many columns, what no move costs, a move joined onto a cost, and the order
@@ -51,9 +51,17 @@ abbrev pub Small : List Move → Type 0
 Small [] = Unit {0}
 Small (m ∷ ms) = (m.minutes < 65536) × Small ms
 
+-- so many moves may be joined, and a cost of the program is still the exact one
+abbrev pub most_joined : ℕ
+most_joined = 255
+
 -- c is what some run of at most `steps` moves costs
 pub record Reached (k : Model) (steps : ℕ) (c : List ℕ) : Type 0 where
   pub moves : List Move
   pub short : length moves ≤ steps
   pub small : Small moves
   pub same : c ≡ cost k moves
+
+-- one move more may be joined onto c: some run of fewer than the most moves costs it
+abbrev pub Joinable : Model → List ℕ → Type 0
+Joinable k c = Reached k (most_joined - 1) c

@@ -1,7 +1,7 @@
 // How the search compares costs, with none where there is no cost.
 ghost use Rattle.std.specs.Prelude.{◌≡◌, Some, Decides};
 ghost use Rattle.costs.specs.Compare.{either, shown, topped, under_of};
-ghost use Rattle.costs.specs.Costs.{Reached};
+ghost use Rattle.costs.specs.Costs.{Joinable};
 
 use crate::model::CostModel;
 use port::Move;
@@ -47,7 +47,7 @@ pub fn comes_to<C: CostModel>(x: Option<C::Cost>, b: C::Cost) -> bool
 
 // The greater of a move joined onto a cost and the top so far.
 pub fn extend<C: CostModel>(m: &Move, c: C::Cost, top: Option<C::Cost>) -> C::Cost
-    ensures { Reached C.model 255 (C.exact c) → C.exact result ≡ topped C.model (C.model.join m.now (C.exact c)) (shown C.exact top) }
+    ensures { Joinable C.model (C.exact c) → C.exact result ≡ topped C.model (C.model.join m.now (C.exact c)) (shown C.exact top) }
 {
     higher::<C>(C::join(m, c), top)
 }

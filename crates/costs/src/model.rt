@@ -1,6 +1,6 @@
 // What a cost model is.
 ghost use Rattle.std.specs.Prelude.{◌≡◌, ℕ, not, List, length, slice_index};
-ghost use Rattle.costs.specs.Costs.{Laws, Model, Reached};
+ghost use Rattle.costs.specs.Costs.{Joinable, Laws, Model};
 
 use port::Move;
 
@@ -26,9 +26,9 @@ pub trait CostModel: Named {
     fn zero() -> Self::Cost
         ensures { exact result ≡ model.zero };
 
-    // The cost of a move and then of what follows it, where that is no more than 255 moves.
+    // The cost of a move and then of what follows it, exact where no more than 255 moves are joined with it.
     fn join(m: &Move, c: Self::Cost) -> Self::Cost
-        ensures { Reached model 255 (exact c) → exact result ≡ model.join m.now (exact c) };
+        ensures { Joinable model (exact c) → exact result ≡ model.join m.now (exact c) };
 
     fn less(a: Self::Cost, b: Self::Cost) -> bool
         ensures { result ≡ not (model.within (exact b) (exact a)) };

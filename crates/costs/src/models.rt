@@ -1,6 +1,6 @@
 // The two cost models that there are.
 ghost use Rattle.std.specs.Prelude.{◌≡◌, ◌+◌, ◌≤◌};
-ghost use Rattle.costs.specs.Models.{count_list, count_sized, minutes_laws, minutes_model, moves_laws, moves_model, time_list, time_sized};
+ghost use Rattle.costs.specs.Models.{count_list, count_sized, joinable_minutes, minutes_laws, minutes_model, moves_laws, moves_model, time_list, time_sized};
 
 use crate::model::{CostModel, Named};
 use port::Move;
@@ -16,9 +16,9 @@ pub struct Time {
     pub moves: u32,
 }
 
-// Minutes added to a sum: exact where that is one of at most 255 moves, which come to at most 16,711,425 minutes.
+// Minutes added to a sum: exact where one move more may be joined onto it.
 fn add_minutes(sum: u32, minutes: u16) -> u32
-    ensures { sum ≤ 16711425 → result ≡ sum + minutes }
+    ensures { sum ≤ joinable_minutes → result ≡ sum + minutes }
 {
     sum.saturating_add(u32::from(minutes))
 }

@@ -4,5 +4,6 @@ pub mod Group
 pub mod Splits
 pub mod Collect
 pub mod Tables
+pub mod Few
 pub mod Steps
 pub mod Exact

@@ -20,7 +20,8 @@ use Rattle.costs.proofs.Order.{reflexive, cost_sized}
 use Rattle.search.proofs.Runs.{worst_map, stop_attains, stop_costs, has_cost}
 use Rattle.tables.proofs.Options.{some_inj, none_some, looked_sized}
 use Rattle.search.proofs.Settle.{settle, later, stands, gone, best, no_plan, reached_more, widen}
-use Rattle.search.proofs.Tables.{unshown, done_most, done_more, done_some}
+use Rattle.search.proofs.Tables.{unshown, done_more, done_some}
+use Rattle.search.proofs.Few.{early_all, spare_all}
 
 -- ── moves ──
 
@@ -103,12 +104,6 @@ module _ {A : Type 0} {k : Model} (laws : WeakLaws k) (e : A → List ℕ) (size
     pub above_start : (t u : List (Option A)) → length t ≡ n → ((c : ℕ) → c < n → looked e t c ≡ start k goal c) → Above k n (looked e t) (looked e u)
     above_start t u l h c d f g m p q = subst (λ x. Le k x g) (started t l h c f p).1 (laws.least g (looked_sized k e sized u d g q))
 
-    pub few_all : n ≤ 256 → (t : List (Option A)) → length t ≡ n → Few k e (done t - 1) t → Few k e 255 t
-    few_all small t l few c a q = let m = done_most t in widen (done t - 1) 255 (omega arith) (few c a q)
-
-    early_all : n ≤ 256 → (t : List (Option A)) → length t ≡ n → Early k e (done t - 2) t → Early k e 254 t
-    early_all small t l early d f p c a q w = let m = done_most t in widen (done t - 2) 254 (omega arith) (early d f p c a q w)
-
     module _ (costs offers : List (Option A)) (state : State k e moves keep goal n costs offers) (b : Label A) (low : LeastOf k e offers (length offers) (Some b)) where
       pub d_within : b.condition < n
       d_within = subst (λ m. b.condition < m) state.offers_sized low.0
@@ -175,7 +170,7 @@ module _ {A : Type 0} {k : Model} (laws : WeakLaws k) (e : A → List ℕ) (size
           (λ z. state.above c b.condition f (e b.cost) d_within (sym (looked_other e costs b.condition (Some b.cost) c z) ∙ q) low.1)
           (cases_eq c b.condition)
 
-      early_next : Early k e (done (set costs b.condition (Some b.cost)) - 2) (set costs b.condition (Some b.cost))
+      pub early_next : Early k e (done (set costs b.condition (Some b.cost)) - 2) (set costs b.condition (Some b.cost))
       early_next d f p c a q w = ⊎_elim
           (λ z. absurd (subst T w (subst (Le k f) (newest z) (most_new d f p))))
           (λ z. let more = done_next in widen (done costs - 1) _ (omega arith) (state.few c a (sym (get_or-set_other costs b.condition c (Some b.cost) None z) ∙ q)))
@@ -218,13 +213,10 @@ module _ {A : Type 0} {k : Model} (laws : WeakLaws k) (e : A → List ℕ) (size
     settled small costs offers state none = record {
       sized = state.costs_sized;
       final = state.final;
-      few = few_all small costs state.costs_sized state.few;
-      early = early_all small costs state.costs_sized state.early;
+      early = early_all k e costs n small state.costs_sized state.early;
+      spare = spare_all k e costs n small state.costs_sized state.few;
       closed = no_plan laws moves keep goal n within (looked e costs) (looked_sized k e sized costs) state.final.goals (looked e offers) state.offered (λ c l. none c (subst (λ m. c < m) (sym state.offers_sized) l));
     }
-
-    pub settled_early : (costs : List (Option A)) → Settled k e moves keep goal n costs → Early k e 255 costs
-    settled_early costs s d f p c a q w = widen 254 255 (omega arith) (s.early d f p c a q w)
 
     -- what is chosen by costs that are settled is the answer
     pub answered : (costs : List (Option A)) → Settled k e moves keep goal n costs → (c : ℕ) → c < n → (x : Choice A) → Picked k e moves (looked e costs) goal c x → Answer k e moves keep goal c x

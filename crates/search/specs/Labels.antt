@@ -3,7 +3,7 @@ use Rattle.std.specs.Prelude.{◌≡◌, ℕ, suc, ◌<◌, Bool, true, false, L
 use Rattle.port.specs.Limits.{In}
 use Rattle.port.specs.declared.Move.{Move}
 use Rattle.plans.specs.Plans.{Plan, Can, IsRun, Attains}
-use Rattle.costs.specs.Costs.{Model, Le, cost, Reached}
+use Rattle.costs.specs.Costs.{Model, Le, cost, Reached, Joinable}
 use Rattle.search.specs.Answers.{Prices}
 
 -- V has the cost a for the outcome of the move
@@ -58,3 +58,7 @@ Few {A} k e steps t = (c : ℕ) (a : A) → slice_index_or t c None ≡ Some a �
 -- and so is each that is below f
 abbrev pub FewBelow : {A : Type 0} → Model → (A → List ℕ) → ℕ → List (Option A) → List ℕ → Type 0
 FewBelow {A} k e steps t f = (c : ℕ) (a : A) → slice_index_or t c None ≡ Some a → k.within f (e a) ≡ false → Reached k steps (e a)
+
+-- each outcome of the listed moves that has a cost has one onto which a move may be joined
+abbrev pub FewAfter : {A : Type 0} → Model → (A → List ℕ) → List (Option A) → List Move → Type 0
+FewAfter {A} k e t ms = (m : Move) (a : A) → In m ms → slice_index_or t m.outcome None ≡ Some a → Joinable k (e a)

@@ -2,7 +2,7 @@
 use Rattle.std.specs.Prelude.{◌≡◌, ℕ, ◌-◌, ◌<◌, ◌≤◌, Bool, true, false, cond, List, length, Some, None, Option, slice_index_or}
 use Rattle.port.specs.declared.Move.{Move}
 use Rattle.plans.specs.Plans.{Plan, Can, Attains}
-use Rattle.costs.specs.Costs.{Model, Le}
+use Rattle.costs.specs.Costs.{Model, Le, most_joined}
 use Rattle.search.specs.Labels.{After, Worst, Offered, Final, Few, FewBelow, done}
 use Rattle.tables.specs.Tables.{looked}
 use Rattle.search.specs.declared.Choice.{Choice}
@@ -28,6 +28,10 @@ Above k n V U = (c d : ℕ) (f g : List ℕ) → d < n → V c ≡ Some f → U 
 abbrev pub Early : {A : Type 0} → Model → (A → List ℕ) → ℕ → List (Option A) → Type 0
 Early k e steps t = (d : ℕ) (f : List ℕ) → looked e t d ≡ Some f → FewBelow k e steps t f
 
+-- while one of n conditions has no cost, each cost of the table is one of a run of at most `steps` moves
+abbrev pub Spare : {A : Type 0} → Model → (A → List ℕ) → ℕ → ℕ → List (Option A) → Type 0
+Spare k e n steps t = (c : ℕ) → c < n → looked e t c ≡ None → Few k e steps t
+
 -- what the search keeps: the costs are final, and each other condition has what is on offer for it
 pub record State {A : Type 0} (k : Model) (e : A → List ℕ) (moves : List Move) (keep goal : ℕ → Bool) (n : ℕ) (costs offers : List (Option A)) : Type 0 where
   pub costs_sized : length costs ≡ n
@@ -43,9 +47,9 @@ pub record State {A : Type 0} (k : Model) (e : A → List ℕ) (moves : List Mov
 pub record Settled {A : Type 0} (k : Model) (e : A → List ℕ) (moves : List Move) (keep goal : ℕ → Bool) (n : ℕ) (costs : List (Option A)) : Type 0 where
   pub sized : length costs ≡ n
   pub final : Final k moves keep goal n (looked e costs)
-  pub few : Few k e 255 costs
-  -- only the costliest may be one of 255 moves
-  pub early : Early k e 254 costs
+  -- a move more may be joined onto each cost, but where every condition has one and none is above it
+  pub early : Early k e (most_joined - 1) costs
+  pub spare : Spare k e n (most_joined - 1) costs
   pub closed : (p : Plan) (c : ℕ) → c < n → looked e costs c ≡ None → Attains moves keep goal p c → ⊥
 
 -- the lowest operation at c that comes to what V has for it, with that cost

@@ -1,5 +1,8 @@
 // What a search knows, and what follows of it for each condition.
-ghost use Rattle.search.specs.Labels.{Few};
+ghost use Rattle.std.specs.Prelude.{◌-◌};
+ghost use Rattle.costs.specs.Costs.{most_joined};
+ghost use Rattle.index.specs.Indexed.{count_of};
+ghost use Rattle.search.specs.Steps.{Early, Spare};
 
 use crate::Choice;
 use costs::CostModel;
@@ -14,7 +17,9 @@ pub(crate) struct Known<'a, 'p, 'c, C: CostModel> {
     pub(crate) keep: &'a [bool],
     pub(crate) goal: &'a [bool],
     pub(crate) costs: &'c [Option<C::Cost>],
-    ghost few: { ∥ Few C.model C.exact 255 costs.now ∥₁ },
+    // A move more may be joined onto each cost, but where every condition has one and none is above it.
+    ghost early: { ∥ Early C.model C.exact (most_joined - 1) costs.now ∥₁ },
+    ghost spare: { ∥ Spare C.model C.exact (count_of index.now) (most_joined - 1) costs.now ∥₁ },
 }
 
 impl<C: CostModel> Known<'_, '_, '_, C> {

@@ -1,10 +1,10 @@
-use Rattle.std.proofs.Common.{◌<◌, vec_items, sym, ap, ◌∙◌, subst, length, get_or}
+use Rattle.std.proofs.Common.{◌-◌, ◌<◌, vec_items, sym, ap, ◌∙◌, subst, length, get_or}
 use Rattle.std.proofs.lemmas.Result.{IfOk-weaker}
 use Rattle.tables.specs.Tables.{looked}
 use Rattle.plans.specs.Flags.{has}
 use Rattle.index.specs.Indexed.{count_of, moves_of}
-use Rattle.search.specs.Labels.{Few}
-use Rattle.search.specs.Steps.{Picked}
+use Rattle.costs.specs.Costs.{most_joined}
+use Rattle.search.specs.Steps.{Early, Spare, Picked}
 use Rattle.search.specs.declared.Choice.TheVariants.{None}
 use Rattle.index.proofs.Bounds.{index_timely, index_within}
 use Rattle.costs.proofs.Order.{weaken}
@@ -14,7 +14,12 @@ use Rattle.search.proofs.labelling.search.Goals as goal
 pub invariant_of-known : goal.invariant_of-known
 invariant_of-known g c =
     let k = g.C.CostModel in
-    record { few = ∣ subst (Few k.model k.exact 255) (sym c.deref.ensures.value) c.in_ok-costs.ensures.few ∣₁ }
+    let s = c.in_ok-costs.ensures in
+    let value = sym c.deref.ensures.value in
+    record {
+      early = ∣ subst (Early k.model k.exact (most_joined - 1)) value s.early ∣₁;
+      spare = ∣ subst (Spare k.model k.exact (count_of c.args.index.now) (most_joined - 1)) value s.spare ∣₁;
+    }
 
 pub returns : goal.returns
 returns g c =

@@ -1,14 +1,16 @@
 use Rattle.std.proofs.Common.{◌≡◌, ℕ, ◌-◌, ◌<◌, length, set, Some, None, vec_items, sym, refl, ap, ◌∙◌, subst, arith}
 use Rattle.std.specs.Vec.{with_item, with_items}
 use Rattle.std.proofs.lemmas.List.{length-set, with_items_is}
-use Rattle.search.specs.Labels.{Few, Offered, done}
+use Rattle.costs.specs.Costs.{most_joined}
+use Rattle.search.specs.Labels.{Offered, done}
 use Rattle.tables.specs.Tables.{looked, LeastOf}
 use Rattle.plans.specs.Flags.{has}
 use Rattle.index.specs.Indexed.{count_of, moves_of, port_of}
-use Rattle.search.specs.Steps.{AllOffered, State, start}
+use Rattle.search.specs.Steps.{AllOffered, Early, Spare, State, start}
 use Rattle.index.proofs.Bounds.{index_timely, index_within}
 use Rattle.costs.proofs.Order.{weaken}
-use Rattle.search.proofs.Steps.{final_start, few_start, few_all, above_start, few_next, rest_next, state_next, settled}
+use Rattle.search.proofs.Few.{early_all, spare_all}
+use Rattle.search.proofs.Steps.{final_start, few_start, above_start, early_next, few_next, rest_next, state_next, settled}
 use Rattle.search.proofs.Tables.{done_most}
 use Rattle.search.proofs.labelling.solve.Goals as goal
 
@@ -20,9 +22,11 @@ invariant_of-known g c =
     let t = vec_items c.in_ok-costs.costs in
     let all = c.conditions.ensures in
     let begun : (d : ℕ) → d < count_of index → looked k.exact t d ≡ start k.model (has c.args.goal.now) d = λ d l. told.1 d (subst (λ n. d < n) (sym all) l) in
+    let few = few_start (weaken k.laws) k.exact g.met.C.CostModel.sized (moves_of index) (has c.args.keep.now) (has c.args.goal.now) (count_of index) (index_within index) (index_timely index) (most_joined - 1) t (told.0 ∙ all) begun in
+    let value = sym c.deref.ensures.value in
     record {
-      few = ∣ subst (Few k.model k.exact 255) (sym c.deref.ensures.value)
-          (few_start (weaken k.laws) k.exact g.met.C.CostModel.sized (moves_of index) (has c.args.keep.now) (has c.args.goal.now) (count_of index) (index_within index) (index_timely index) 255 t (told.0 ∙ all) begun) ∣₁;
+      early = ∣ subst (Early k.model k.exact (most_joined - 1)) value (λ d f p e a q w. few e a q) ∣₁;
+      spare = ∣ subst (Spare k.model k.exact (count_of index) (most_joined - 1)) value (λ d l none e a q. few e a q) ∣₁;
     }
 
 pub loop-label-init : goal.loop-label-init
@@ -71,9 +75,13 @@ invariant_of-known-in-Some g c =
     let low : LeastOf k.model k.exact offers (length offers) (Some b) = subst (λ t. LeastOf k.model k.exact t (length t) (Some b)) seen c.in-Some.ensures in
     let new = set costs b.condition (Some b.cost) in
     let few = few_next laws k.exact g.met.C.CostModel.sized ms keep goal n within timely costs offers state b low in
+    let early = early_next laws k.exact g.met.C.CostModel.sized ms keep goal n within timely costs offers state b low in
+    let small = (port_of index).conditions_few in
+    let size = length-set costs b.condition (Some b.cost) ∙ state.costs_sized in
+    let value = sym c.deref-in-Some.ensures.value in
     record {
-      few = ∣ subst (Few k.model k.exact 255) (sym c.deref-in-Some.ensures.value)
-          (few_all laws k.exact g.met.C.CostModel.sized ms keep goal n within timely (port_of index).conditions_few new (length-set costs b.condition (Some b.cost) ∙ state.costs_sized) few) ∣₁;
+      early = ∣ subst (Early k.model k.exact (most_joined - 1)) value (early_all k.model k.exact new n small size early) ∣₁;
+      spare = ∣ subst (Spare k.model k.exact n (most_joined - 1)) value (spare_all k.model k.exact new n small size few) ∣₁;
     }
 
 pub renew-requires : goal.renew-requires

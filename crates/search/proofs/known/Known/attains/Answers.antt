@@ -1,3 +1,5 @@
+use Rattle.search.proofs.Few.{after_below}
+use Rattle.std.proofs.Math.Logic.{∥∥₁_map}
 use Rattle.std.proofs.Common.{sym, ◌∙◌, true≢false}
 use Rattle.tables.specs.Tables.{looked}
 use Rattle.search.proofs.Group.{greatest_is, worst_below}
@@ -18,3 +20,8 @@ returns-else-all_below g c =
       (λ e. absurd (true≢false (sym e ∙ c.if-all_below.false))),
       (λ w. c.all_below.ensures.1 (worst_below k.laws (looked k.exact cs) (looked_sized k.model k.exact g.met.C.CostModel.sized cs) c.args.moves.now (k.exact c.args.cost) w)),
     )
+
+pub worst-requires : goal.worst-requires
+worst-requires g c =
+    let k = g.C.CostModel in
+    ∥∥₁_map c.requires (after_below k.model k.exact c.args.self.now.costs.now c.args.moves.now (k.exact c.args.cost) (c.all_below.ensures.0 c.if-all_below.true))

@@ -1,3 +1,5 @@
+use Rattle.search.proofs.Few.{after_among}
+use Rattle.std.proofs.Math.Logic.{∥∥₁_map}
 use Rattle.std.proofs.Common.{None, sym, ap, subst}
 use Rattle.search.specs.Groups.{Left, Lowered}
 use Rattle.search.specs.declared.groups.Groups.{Groups}
@@ -35,3 +37,10 @@ returns g c =
     let k = g.C.CostModel in
     let cs = c.args.self.now.costs.now in
     lowered_all (weaken k.laws) (looked k.exact cs) (looked_sized k.model k.exact g.met.C.CostModel.sized cs) c.args.moves.now c.loop-group.group-iterator.rest.now c.in-None.ensures.steps _ c.loop-group.invariant.1
+
+pub worst-requires : goal.worst-requires
+worst-requires g c =
+    let k = g.C.CostModel in
+    let left = c.loop-group.invariant.0 in
+    let splits = c.in-Some.ensures.steps in
+    ∥∥₁_map c.requires.few (after_among k.model k.exact c.args.self.now.costs.now c.args.moves.now c.in-Some.group.now (λ m h. left.among m (splits.mine m h).0))

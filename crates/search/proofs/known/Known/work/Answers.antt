@@ -1,3 +1,4 @@
+use Rattle.std.proofs.Math.Logic.{∥∥₁_map}
 use Rattle.std.proofs.Common.{◌≡◌, Some, None, sym, ap, ◌∙◌, subst, rules}
 use Rattle.plans.specs.Plans.{Can}
 use Rattle.costs.specs.Compare.{shown}
@@ -30,3 +31,9 @@ returns g c =
     let found : Lowest k.model V c.moves_from.result.now f (Some c.in_ok-lowest.lowest) = subst (Lowest k.model V c.moves_from.result.now f) c.in_ok-lowest.was c.operation.ensures in
     let low = lowest_from k.model V (moves_of c.args.self.now.index.now) c.args.c c.moves_from.result.now c.moves_from.ensures f c.in_ok-lowest.lowest found in
     (ap (shown k.exact) (sym c.cost_at.ensures ∙ c.in_ok-cost.was), low.0, low.1)
+
+pub operation-requires-clause-few : goal.operation-requires-clause-few
+operation-requires-clause-few g c =
+    let k = g.C.CostModel in
+    let known = c.args.self.now in
+    ∥∥₁_map known.early (λ early. early c.args.c (k.exact c.in_ok-cost.cost) (ap (shown k.exact) (sym c.cost_at.ensures ∙ c.in_ok-cost.was)))
