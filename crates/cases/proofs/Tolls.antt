@@ -6,4 +6,4 @@ use Rattle.cases.specs.Tolls.{toll_model}
 
 pub toll_bound : (ms : List Move) → Small ms → get_or (cost toll_model ms) 0 0 ≤ 65536 * length ms
 toll_bound [] s = omega arith
-toll_bound (m ∷ ms) s = let h = toll_bound ms s.1 in omega arith
+toll_bound (m ∷ ms) s = let h = toll_bound ms s.1 in let l = s.0.3 in omega arith

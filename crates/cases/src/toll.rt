@@ -1,4 +1,5 @@
 // A cost model that is written only here: a run costs its minutes and one for each of its moves.
+ghost use Rattle.std.specs.Prelude.{refl};
 ghost use Rattle.cases.specs.Tolls.{fare_list, fare_sized, toll_laws, toll_model};
 ghost use Rattle.plans.specs.Domains.{domain_of};
 ghost use Rattle.port.specs.Model.{model_of};
@@ -25,6 +26,10 @@ impl CostModel for Toll {
 
     const COLUMNS: usize = 1;
 
+    ghost COLUMNS = { 1 };
+
+    ghost counted = { refl };
+
     ghost model = { toll_model };
 
     ghost laws = { toll_laws };
@@ -44,10 +49,6 @@ impl CostModel for Toll {
 
     fn less(a: Fare, b: Fare) -> bool {
         a < b
-    }
-
-    fn column_count() -> usize {
-        Self::COLUMNS
     }
 
     fn column(c: Fare, i: usize) -> u32 {

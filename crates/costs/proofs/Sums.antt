@@ -14,4 +14,4 @@ minutes_count (m ∷ ms) = let h = minutes_count ms in omega arith
 
 pub minutes_bound : (ms : List Move) → Small ms → get_or (cost minutes_model ms) 0 0 ≤ 65535 * length ms
 minutes_bound [] s = omega arith
-minutes_bound (m ∷ ms) s = let h = minutes_bound ms s.1 in omega arith
+minutes_bound (m ∷ ms) s = let h = minutes_bound ms s.1 in let l = s.0.3 in omega arith

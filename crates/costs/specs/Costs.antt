@@ -1,5 +1,6 @@
 -- What a cost model is: exact costs are lists of whole numbers, one for each column.
 use Rattle.std.specs.Prelude.{◌≡◌, ℕ, ◌-◌, ◌<◌, ◌≤◌, Bool, T, ◌⊎◌, List, [], ◌∷◌, length}
+use Rattle.port.specs.Limits.{Limited}
 use Rattle.port.specs.declared.Move.{Move}
 
 -- exact costs: how many columns, what no move costs, a move joined onto a cost, and the order
@@ -46,10 +47,10 @@ abbrev pub cost : Model → List Move → List ℕ
 cost k [] = k.zero
 cost k (m ∷ ms) = k.join m (cost k ms)
 
--- the minutes of each move are as small as their type says
+-- the numbers of each move are within the limits of every port
 abbrev pub Small : List Move → Type 0
 Small [] = Unit {0}
-Small (m ∷ ms) = (m.minutes < 65536) × Small ms
+Small (m ∷ ms) = Limited m × Small ms
 
 -- so many moves may be joined, and a cost of the program is still the exact one
 abbrev pub most_joined : ℕ

@@ -1,10 +1,10 @@
 -- The two models.
-use Rattle.std.specs.Prelude.{◌≡◌, ℕ, ◌+◌, ◌-◌, ◌*◌, ◌<◌, ◌≤◌, Bool, true, false, cond, T, ◌⊎◌, List, [], ◌∷◌, length, ◌==◌, nat_eq, nat_le, slice_index, slice_index_or, refl}
+use Rattle.std.specs.Prelude.{◌≡◌, ℕ, ◌+◌, ◌<◌, ◌≤◌, Bool, true, false, cond, T, ◌⊎◌, List, [], ◌∷◌, length, ◌==◌, nat_eq, nat_le, slice_index, slice_index_or, refl}
 use Rattle.std.proofs.Common.{ap, ap₂, sym, subst, ◌∙◌, inl, inr, arith, leb→le, le→leb, eqb→eq}
 use Rattle.std.proofs.Math.Logic.{⊎_map}
 use Rattle.std.proofs.Math.Decide.{dec_le, dec_lt}
 use Rattle.std.proofs.Math.Dec.{eqb_refl}
-use Rattle.costs.specs.Costs.{Model, Laws, most_joined}
+use Rattle.costs.specs.Costs.{Model, Laws}
 use Rattle.costs.specs.declared.models.Count.{Count}
 use Rattle.costs.specs.declared.models.Time.{Time}
 
@@ -15,10 +15,6 @@ count_list c = c.moves ∷ []
 -- the exact cost behind minutes and moves
 abbrev pub time_list : Time → List ℕ
 time_list c = c.minutes ∷ (c.moves ∷ [])
-
--- so many minutes come together at most in a run onto which one move more may be joined
-abbrev pub joinable_minutes : ℕ
-joinable_minutes = (most_joined - 1) * 65535
 
 -- a run costs its moves
 abbrev pub moves_model : Model

@@ -20,6 +20,10 @@ pub trait CostModel: Named {
 
     ghost laws: { Laws model };
 
+    ghost COLUMNS: { ℕ };
+
+    ghost counted: { COLUMNS ≡ model.columns };
+
     // The exact cost that a cost of the program stands for.
     ghost exact: { Self.Cost → List ℕ };
 
@@ -32,11 +36,6 @@ pub trait CostModel: Named {
 
     fn less(a: Self::Cost, b: Self::Cost) -> bool
         ensures { result ≡ not (model.within (exact b) (exact a)) };
-
-    // `COLUMNS`, tied to the model.
-    // Stays: a rule of the project: a model is asked no more than before, and a law on `COLUMNS` would ask more of each.
-    fn column_count() -> usize
-        ensures { result ≡ model.columns };
 
     // The number in column `i` of a cost: past the last, 0.
     fn column(c: Self::Cost, i: usize) -> u32

@@ -1,6 +1,6 @@
 // The two cost models that there are.
-ghost use Rattle.std.specs.Prelude.{◌≡◌, ◌+◌, ◌≤◌};
-ghost use Rattle.costs.specs.Models.{count_list, count_sized, joinable_minutes, minutes_laws, minutes_model, moves_laws, moves_model, time_list, time_sized};
+ghost use Rattle.std.specs.Prelude.{◌≡◌, ◌+◌, ◌^◌, ◌<◌, refl};
+ghost use Rattle.costs.specs.Models.{count_list, count_sized, minutes_laws, minutes_model, moves_laws, moves_model, time_list, time_sized};
 
 use crate::model::{CostModel, Named};
 use port::Move;
@@ -16,9 +16,9 @@ pub struct Time {
     pub moves: u32,
 }
 
-// Minutes added to a sum: exact where one move more may be joined onto it.
+// Minutes added to a sum: exact while that fits.
 fn add_minutes(sum: u32, minutes: u16) -> u32
-    ensures { sum ≤ joinable_minutes → result ≡ sum + minutes }
+    ensures { sum + minutes < 2 ^ 32 → result ≡ sum + minutes }
 {
     sum.saturating_add(u32::from(minutes))
 }
@@ -38,6 +38,10 @@ impl CostModel for MoveCount {
 
     const COLUMNS: usize = 1;
 
+    ghost COLUMNS = { 1 };
+
+    ghost counted = { refl };
+
     ghost model = { moves_model };
 
     ghost laws = { moves_laws };
@@ -50,17 +54,16 @@ impl CostModel for MoveCount {
         Count { moves: 0 }
     }
 
-    fn join(_m: &Move, c: Count) -> Count {
+    // Whatever the run, exact while the sum fits.
+    fn join(_m: &Move, c: Count) -> Count
+        ensures joined { c.moves + 1 < 2 ^ 32 → result.moves ≡ c.moves + 1 }
+    {
         let moves = c.moves.saturating_add(1);
         Count { moves }
     }
 
     fn less(a: Count, b: Count) -> bool {
         a < b
-    }
-
-    fn column_count() -> usize {
-        Self::COLUMNS
     }
 
     fn column(c: Count, i: usize) -> u32 {
@@ -80,6 +83,10 @@ impl CostModel for Minutes {
 
     const COLUMNS: usize = 2;
 
+    ghost COLUMNS = { 2 };
+
+    ghost counted = { refl };
+
     ghost model = { minutes_model };
 
     ghost laws = { minutes_laws };
@@ -95,7 +102,10 @@ impl CostModel for Minutes {
         }
     }
 
-    fn join(m: &Move, c: Time) -> Time {
+    // Whatever the run, exact while the sums fit with any move.
+    fn join(m: &Move, c: Time) -> Time
+        ensures joined { c.minutes + 65535 < 2 ^ 32 → c.moves + 1 < 2 ^ 32 → (result.minutes ≡ c.minutes + m.now.minutes) × (result.moves ≡ c.moves + 1) }
+    {
         Time {
             minutes: add_minutes(c.minutes, m.minutes),
             moves: c.moves.saturating_add(1),
@@ -104,10 +114,6 @@ impl CostModel for Minutes {
 
     fn less(a: Time, b: Time) -> bool {
         a < b
-    }
-
-    fn column_count() -> usize {
-        Self::COLUMNS
     }
 
     fn column(c: Time, i: usize) -> u32 {

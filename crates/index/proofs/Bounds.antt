@@ -3,7 +3,7 @@ use Rattle.std.proofs.Common.{◌≡◌, ℕ, ◌<◌, ◌≤◌, List, length, 
 use Rattle.std.specs.List.Sorted.{IsNonDecreasingBy}
 use Rattle.std.proofs.lemmas.List.Sorted.{IsNonDecreasingBy-from_default}
 use Rattle.std.proofs.lemmas.Bool.{cases_lt}
-use Rattle.port.specs.Limits.{In, at, no_move, key, MovesExist, MovesRise}
+use Rattle.port.specs.Limits.{In, at, no_move, key, Limited, MovesExist, MovesRise}
 use Rattle.port.specs.declared.Move.{Move}
 use Rattle.port.specs.declared.held.Port.{Port}
 use Rattle.plans.specs.Plans.{Within}
@@ -32,8 +32,15 @@ module _ (n : ℕ) (ms : List Move) (few : n ≤ 256) (exist : MovesExist n 256 
 pub index_within : (index : MoveIndex) → Within (count_of index) (moves_of index)
 index_within index = in_each no_move (λ m. (m.condition < count_of index) × (m.outcome < count_of index)) (moves_of index) (λ i l. let e = (port_of index).moves_exist i l in (e.0, e.2))
 
-pub index_timely : (index : MoveIndex) (m : Move) → In m (moves_of index) → m.minutes < 65536
-index_timely index = in_each no_move (λ m. m.minutes < 65536) (moves_of index) index.timed
+pub index_limited : (index : MoveIndex) (m : Move) → In m (moves_of index) → Limited m
+index_limited index = in_each no_move Limited (moves_of index) (λ i l.
+    let exist = (port_of index).moves_exist i l in
+    let condition = exist.0 in
+    let operation = exist.1 in
+    let outcome = exist.2 in
+    let conditions = (port_of index).conditions_few in
+    let operations = (port_of index).operations_few in
+    (omega arith, omega arith, omega arith, index.timed i l))
 
 pub port_exist : (p : Port) → MovesExist (vec_len p.conditions) 256 (vec_items p.moves)
 port_exist p = exist_wide (vec_len p.conditions) p.header.operations (vec_items p.moves) p.operations_few p.moves_exist

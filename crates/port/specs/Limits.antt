@@ -34,6 +34,10 @@ abbrev pub MovesExist : ℕ → ℕ → List Move → Type 0
 MovesExist conditions operations ms =
     (i : ℕ) → i < length ms → ((at ms i).condition < conditions) × ((at ms i).operation < operations) × ((at ms i).outcome < conditions)
 
+-- the numbers of a move are within the limits of every port
+abbrev pub Limited : Move → Type 0
+Limited m = (m.condition < 256) × (m.operation < 32) × (m.outcome < 256) × (m.minutes < 65536)
+
 -- moves rise strictly in their order
 abbrev pub MovesRise : List Move → Type 0
 MovesRise ms = (i j : ℕ) → i < j → j < length ms → key (at ms i) < key (at ms j)

@@ -1,7 +1,7 @@
 -- Why conditions may become final in order of cost.
 use Rattle.std.proofs.Common.{◌≡◌, ℕ, ◌+◌, ◌<◌, ◌≤◌, Bool, true, false, ◌⊎◌, List, ◌∷◌, Some, None, Option, sym, refl, ap, ◌∙◌, subst, inl, inr, ⊎_elim, arith}
 use Rattle.std.proofs.lemmas.Bool.{cases_eq}
-use Rattle.port.specs.Limits.{In}
+use Rattle.port.specs.Limits.{In, Limited}
 use Rattle.port.specs.declared.Move.{Move}
 use Rattle.plans.specs.Plans.{Within, Plan, stop, work, Can, Possible, IsRun, Attains}
 use Rattle.costs.specs.Costs.{Model, WeakLaws, Sized, Le, cost, Reached}
@@ -211,7 +211,7 @@ module _ {k : Model} (laws : WeakLaws k) (moves : List Move) (keep goal : ℕ �
     gone e kept o g w = none_some (sym e ∙ here)
 
 -- a move more
-pub reached_more : {k : Model} (steps : ℕ) (m : Move) (a f : List ℕ) → m.minutes < 65536 → Reached k steps a → k.join m a ≡ f → Reached k (steps + 1) f
+pub reached_more : {k : Model} (steps : ℕ) (m : Move) (a f : List ℕ) → Limited m → Reached k steps a → k.join m a ≡ f → Reached k (steps + 1) f
 reached_more {k} steps m a f small r e =
     let s = r.short in
     record { moves = m ∷ r.moves; short = omega arith; small = (small, r.small); same = sym e ∙ ap (k.join m) r.same }

@@ -2,7 +2,7 @@
 use Rattle.std.proofs.Common.{◌≡◌, ℕ, suc, ◌+◌, ◌-◌, ◌<◌, ◌≤◌, Bool, true, false, cond, T, List, [], length, get_or, set, Some, None, Option, sym, refl, ap, ◌∙◌, subst, ⊎_elim, true≢false, arith, below_more}
 use Rattle.std.proofs.lemmas.List.{get_or-set_same, get_or-set_other, length-set, get_or_past}
 use Rattle.std.proofs.lemmas.Bool.{cases_eq, cases_lt}
-use Rattle.port.specs.Limits.{In}
+use Rattle.port.specs.Limits.{In, Limited}
 use Rattle.port.specs.declared.Move.{Move}
 use Rattle.plans.specs.Plans.{Within, Can, Plan, stop, Attains}
 use Rattle.index.specs.Indexes.{From, Apart}
@@ -78,7 +78,7 @@ module _ {A : Type 0} (k : Model) (e : A → List ℕ) (moves : List Move) (keep
 module _ {A : Type 0} {k : Model} (laws : WeakLaws k) (e : A → List ℕ) (sized : (a : A) → Sized k (e a)) where
   -- ── the state ──
 
-  module _ (moves : List Move) (keep goal : ℕ → Bool) (n : ℕ) (within : Within n moves) (timely : (m : Move) → In m moves → m.minutes < 65536) where
+  module _ (moves : List Move) (keep goal : ℕ → Bool) (n : ℕ) (within : Within n moves) (limited : (m : Move) → In m moves → Limited m) where
     started : (t : List (Option A)) → length t ≡ n → ((c : ℕ) → c < n → looked e t c ≡ start k goal c) → (c : ℕ) (f : List ℕ) → looked e t c ≡ Some f → (goal c ≡ true) × (k.zero ≡ f)
     started t l h c f q = ⊎_elim (λ m. go (goal c) refl (sym (h c m) ∙ q)) (λ m. let past : length t ≤ c = omega arith in absurd (none_some (sym (ap (shown e) (get_or_past t c None past)) ∙ q))) (cases_lt c n)
       where
@@ -136,7 +136,7 @@ module _ {A : Type 0} {k : Model} (laws : WeakLaws k) (e : A → List ℕ) (size
               let some = done_some costs t.0.outcome u.0 u.1 in
               let more = done_next in
               widen (done costs - 1 + 1) _ (omega arith)
-              (reached_more (done costs - 1) t.0 t.2.0 (e a) (timely t.0 t.1.0) (subst (Reached k (done costs - 1)) u.2 r) (t.2.2 ∙ same))
+              (reached_more (done costs - 1) t.0 t.2.0 (e a) (limited t.0 t.1.0) (subst (Reached k (done costs - 1)) u.2 r) (t.2.2 ∙ same))
 
           elsewhere : (c ≡ b.condition → ⊥) → Reached k (done (set costs b.condition (Some b.cost)) - 1) (e a)
           elsewhere z =

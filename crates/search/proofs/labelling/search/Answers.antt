@@ -6,7 +6,7 @@ use Rattle.index.specs.Indexed.{count_of, moves_of}
 use Rattle.costs.specs.Costs.{most_joined}
 use Rattle.search.specs.Steps.{Early, Spare, Picked}
 use Rattle.search.specs.declared.Choice.TheVariants.{None}
-use Rattle.index.proofs.Bounds.{index_timely, index_within}
+use Rattle.index.proofs.Bounds.{index_limited, index_within}
 use Rattle.costs.proofs.Order.{weaken}
 use Rattle.search.proofs.Steps.{answered}
 use Rattle.search.proofs.labelling.search.Goals as goal
@@ -31,6 +31,6 @@ returns g c =
     let size = ap length value ∙ s.sized in
     IfOk-weaker c.choices.result _ _ (λ v h. record {
       sized = h.0 ∙ size;
-      each = λ d l. answered (weaken k.laws) k.exact g.met.C.CostModel.sized (moves_of index) (has c.args.keep.now) (has c.args.goal.now) (count_of index) (index_within index) (index_timely index) t s d l (get_or (vec_items v) d None)
+      each = λ d l. answered (weaken k.laws) k.exact g.met.C.CostModel.sized (moves_of index) (has c.args.keep.now) (has c.args.goal.now) (count_of index) (index_within index) (index_limited index) t s d l (get_or (vec_items v) d None)
           (subst (λ u. Picked k.model k.exact (moves_of index) (looked k.exact u) (has c.args.goal.now) d (get_or (vec_items v) d None)) value (h.1 d (subst (λ n. d < n) (sym size) l)));
     }) c.choices.ensures
