@@ -1,3 +1,4 @@
 pub mod Lists
 pub mod Bounds
 pub mod Places
+pub mod Flagged

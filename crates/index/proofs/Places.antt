@@ -1,5 +1,5 @@
 -- What an index of moves finds.
-use Rattle.std.proofs.Common.{◌≡◌, ℕ, ◌+◌, ◌<◌, ◌≤◌, ◌==◌, Bool, true, false, Option, Some, None, List, [], length, Bor, vec_items, sym, ap, ◌∙◌, subst, ⊎_elim, true≢false, arith}
+use Rattle.std.proofs.Common.{◌≡◌, ℕ, ◌+◌, ◌<◌, ◌≤◌, ◌==◌, Bool, true, false, Option, Some, None, List, [], length, Bor, vec_items, sym, ap, ◌∙◌, subst, inl, inr, refl, cond, ◌∷◌, ⊎_elim, true≢false, arith}
 use Rattle.std.proofs.lemmas.Bool.{cases_lt, eq-eqb, eqb-true, ne_eqb}
 use Rattle.std.specs.List.{ItemBy}
 use Rattle.std.specs.Option.{option_copied, unwrap_or}
@@ -10,7 +10,7 @@ use Rattle.port.specs.declared.held.Port.{Port}
 use Rattle.plans.specs.Plans.{Within}
 use Rattle.index.specs.Indexed.{count_of, moves_of, port_of}
 use Rattle.index.specs.declared.MoveIndex.{MoveIndex}
-use Rattle.index.specs.Indexes.{Apart, Flags, From, Ordered, Start, flagged, row}
+use Rattle.index.specs.Indexes.{Apart, Bare, Flags, From, Ordered, Start, flagged, row}
 use Rattle.index.proofs.Bounds.{index_within, port_keys}
 use Rattle.index.proofs.Lists.{filter_in, filter_part, in_at, in_each, in_filter, in_get_d, part}
 
@@ -73,27 +73,33 @@ not_flagged ms into flags c d e m h p q =
 pub index_apart : (index : MoveIndex) (c d : ℕ) → flagged (vec_items index.into) c d ≡ false → Apart (moves_of index) c d
 index_apart index = not_flagged (moves_of index) (vec_items index.into) (subst (λ n. Flags (moves_of index) n (vec_items index.into)) (port_of index).moves.ok.0 index.flags)
 
--- from what is no condition no move leads
-pub from_none : (n : ℕ) (ms : List Move) → Within n ms → (c : ℕ) → n ≤ c → From ms c []
-from_none n ms within c l = record {
-  are = λ m h. absurd h;
-  all = λ m h e. let w = (within m h).0 in absurd (omega arith);
-  ordered = λ i j h g. absurd (omega arith);
-}
+-- and one that is
+pub index_bare : (index : MoveIndex) (c d : ℕ) → Apart (moves_of index) c d → flagged (vec_items index.into) c d ≡ false
+index_bare index c d apart =
+    subst (λ n. Bare (moves_of index) n (vec_items index.into)) (port_of index).moves.ok.0 index.bare c d
+    (λ j l. apart (at (moves_of index) j) (in_get_d no_move (moves_of index) j l))
+
+-- no move leads from what is no condition
+pub row_none : (n : ℕ) (ms : List Move) → Within n ms → (c : ℕ) → n ≤ c → row c ms ≡ []
+row_none n [] within c l = refl
+row_none n (m ∷ ms) within c l =
+    let w = (within m (inl refl)).0 in
+    let differs : (m.condition == c) ≡ false = ne_eqb m.condition c (λ e. omega arith) in
+    ap (λ b. cond b (m ∷ row c ms) (row c ms)) differs ∙ row_none n ms (λ x h. within x (inr h)) c l
 
 -- a row as it is read: what is read in its place where there is none is empty
 pub read_row : (index : MoveIndex) (c : ℕ) (o : Option (Bor (Bor (List Move)))) (copy : Option (Bor (List Move))) (none r : Bor (List Move)) →
     ItemBy (λ (x : Bor (Bor (List Move))). x.now) (vec_items index.rows) c c o → copy ≡ option_copied o → r ≡ unwrap_or copy none → none.now ≡ [] →
-    From (moves_of index) c r.now
+    r.now ≡ row c (moves_of index)
 read_row index c (Some x) copy none r item copied told empty =
     let l = item.3.0 in
     let long = index.rows.ok.0 in
     let each = index.counted in
     let same : r ≡ x.now = told ∙ ap (λ (o : Option (Bor (List Move))). unwrap_or o none) copied in
-    subst (From (moves_of index) c) (sym (ap (λ (y : Bor (List Move)). y.now) same ∙ ap (λ (y : Bor (List Move)). y.now) (item.3.1 none) ∙ index.parted c none (omega arith))) (row_from (port_of index) c)
+    ap (λ (y : Bor (List Move)). y.now) same ∙ ap (λ (y : Bor (List Move)). y.now) (item.3.1 none) ∙ index.parted c none (omega arith)
 read_row index c None copy none r item copied told empty =
     let l = item.3 in
     let long = index.rows.ok.0 in
     let each = index.counted in
     let same : r ≡ none = told ∙ ap (λ (o : Option (Bor (List Move))). unwrap_or o none) copied in
-    subst (From (moves_of index) c) (sym (ap (λ (y : Bor (List Move)). y.now) same ∙ empty)) (from_none (count_of index) (moves_of index) (index_within index) c (omega arith))
+    ap (λ (y : Bor (List Move)). y.now) same ∙ empty ∙ sym (row_none (count_of index) (moves_of index) (index_within index) c (omega arith))

@@ -31,6 +31,10 @@ flagged into c d = slice_index_or (slice_index_or into d []) c false
 abbrev pub Flags : List Move → ℕ → List (List Bool) → Type 0
 Flags ms i into = (j : ℕ) → j < i → flagged into (at ms j).condition (at ms j).outcome ≡ true
 
+-- no other flag is set: not where none of the first i moves leads from a condition to an outcome
+abbrev pub Bare : List Move → ℕ → List (List Bool) → Type 0
+Bare ms i into = (c d : ℕ) → ((j : ℕ) → j < i → (at ms j).condition ≡ c → (at ms j).outcome ≢ d) → flagged into c d ≡ false
+
 -- the moves stand in order of operation
 abbrev pub Ordered : List Move → Type 0
 Ordered ms = (i j : ℕ) → i ≤ j → j < length ms → (at ms i).operation ≤ (at ms j).operation

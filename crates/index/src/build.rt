@@ -1,7 +1,7 @@
 // How the index of a port is made.
 ghost use Rattle.std.specs.Prelude.{◌≡◌, ◌+◌, IfOk, vec_len};
 ghost use Rattle.index.specs.Indexed.{port_of};
-ghost use Rattle.index.specs.Indexes.{Flags, Rows, Start, Timed, row};
+ghost use Rattle.index.specs.Indexes.{Bare, Flags, Rows, Start, Timed, row};
 
 use super::MoveIndex;
 use port::{Move, Port};
@@ -58,7 +58,7 @@ fn rows_of<'a>(heap: Global, port: &'a Port) -> Result<Vec<&'a [Move]>, AllocErr
 
 // For each outcome, from which conditions a move leads to it.
 fn into_of(heap: Global, port: &Port) -> Result<Vec<[bool; 256]>, AllocError>
-    ensures { IfOk result (λ v. (vec_len v ≡ vec_len port.now.conditions) × Flags port.now.moves.items (vec_len port.now.moves) v.items) }
+    ensures { IfOk result (λ v. (vec_len v ≡ vec_len port.now.conditions) × Flags port.now.moves.items (vec_len port.now.moves) v.items × Bare port.now.moves.items (vec_len port.now.moves) v.items) }
 {
     let mut into = vec![in heap; [false; 256]; port.conditions.len()]?;
     for m in &port.moves {

@@ -2,7 +2,7 @@
 #![tactic(auto)]
 
 ghost use Rattle.std.specs.Prelude.{◌≡◌, false, vec_len};
-ghost use Rattle.index.specs.Indexes.{Apart, Flags, From, Rows, Timed};
+ghost use Rattle.index.specs.Indexes.{Apart, Bare, Flags, From, Rows, Timed, row};
 
 mod build;
 
@@ -20,6 +20,7 @@ pub struct MoveIndex<'a> {
     ghost parted: { Rows (vec_len port.now.conditions) port.now.moves.items rows.items },
     ghost wide: { vec_len into ≡ vec_len port.now.conditions },
     ghost flags: { Flags port.now.moves.items (vec_len port.now.moves) into.items },
+    ghost bare: { Bare port.now.moves.items (vec_len port.now.moves) into.items },
 }
 
 impl<'a> MoveIndex<'a> {
@@ -37,7 +38,8 @@ impl<'a> MoveIndex<'a> {
 
     // The moves from a condition, in order of operation: none where there is no such condition.
     pub fn moves_from(&self, c: usize) -> &[Move]
-        ensures { From self.now.port.now.moves.items c result.now }
+        ensures from { From self.now.port.now.moves.items c result.now }
+        ensures row { result.now ≡ row c self.now.port.now.moves.items }
     {
         // Stays: tried as one expression: it is not covered where a row is lent for less than the port's lifetime.
         let row: &'a [Move] = self.rows.get(c).copied().unwrap_or(&[]);
@@ -46,7 +48,8 @@ impl<'a> MoveIndex<'a> {
 
     // Whether some move may lead from condition `c` to `d`.
     pub fn leads(&self, c: usize, d: usize) -> bool
-        ensures { result ≡ false → Apart self.now.port.now.moves.items c d }
+        ensures apart { result ≡ false → Apart self.now.port.now.moves.items c d }
+        ensures bare { Apart self.now.port.now.moves.items c d → result ≡ false }
     {
         self.into
             .get(d)
