@@ -1,5 +1,5 @@
 -- What is read from a table of costs.
-use Rattle.std.specs.Prelude.{◌≡◌, ℕ, ◌<◌, true, false, List, Some, None, Option, slice_index_or}
+use Rattle.std.specs.Prelude.{◌≡◌, ℕ, ◌<◌, true, List, Some, None, Option, slice_index_or}
 use Rattle.port.specs.Limits.{In}
 use Rattle.port.specs.declared.Move.{Move}
 use Rattle.costs.specs.Compare.{shown, under_of}
@@ -14,9 +14,7 @@ looked e t c = shown e (slice_index_or t c None)
 abbrev pub AllBelow : Model → (ℕ → Option (List ℕ)) → List Move → List ℕ → Type 0
 AllBelow k V ms f = (m : Move) → In m ms → under_of k (V m.outcome) (Some f) ≡ true
 
--- the least of the first i offers, and the first of those that are as low
+-- the least of the first i offers
 abbrev pub LeastOf : {A : Type 0} → Model → (A → List ℕ) → List (Option A) → ℕ → Option (Label A) → Type 0
 LeastOf k e t i None = (c : ℕ) → c < i → looked e t c ≡ None
-LeastOf k e t i (Some b) =
-    (b.condition < i) × (looked e t b.condition ≡ Some (e b.cost)) × ((c : ℕ) (g : List ℕ) → c < i → looked e t c ≡ Some g → Le k (e b.cost) g)
-    × ((c : ℕ) (g : List ℕ) → c < b.condition → looked e t c ≡ Some g → k.within g (e b.cost) ≡ false)
+LeastOf k e t i (Some b) = (b.condition < i) × (looked e t b.condition ≡ Some (e b.cost)) × ((c : ℕ) (g : List ℕ) → c < i → looked e t c ≡ Some g → Le k (e b.cost) g)

@@ -58,7 +58,7 @@ fn is_better<C: CostModel>(cost: C::Cost, best: Option<Label<C::Cost>>) -> bool
     best.is_none_or(|best| C::less(cost, best.cost))
 }
 
-// The least offer, and the first of equals.
+// The least offer, with its condition: where several are as low, one of these.
 pub fn least<C: CostModel>(offers: &[Option<C::Cost>]) -> Option<Label<C::Cost>>
     ensures { LeastOf C.model C.exact offers.now (length offers.now) result }
 {

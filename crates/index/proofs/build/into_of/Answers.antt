@@ -1,8 +1,8 @@
-use Rattle.std.proofs.Common.{◌≡◌, ℕ, ◌+◌, ◌<◌, Bool, true, false, List, length, get_or, set, replicate, refl, vec_items, vec_len, sym, ap, ◌∙◌, subst, rules, arith}
+use Rattle.std.proofs.Common.{◌≡◌, ◌+◌, ◌<◌, true, false, length, get_or, set, refl, vec_items, vec_len, sym, ap, ◌∙◌, subst, rules, arith}
 use Rattle.std.proofs.lemmas.List.{same_lists, length-replicate}
 use Rattle.port.specs.Limits.{at}
 use Rattle.port.specs.declared.Move.{Move}
-use Rattle.index.specs.Indexes.{Bare, Flags, flagged}
+use Rattle.index.specs.Indexes.{Bare, Flags}
 use Rattle.index.proofs.Flagged.{bare_none, flags_more, bare_more}
 use Rattle.index.proofs.build.into_of.Goals as goal
 

@@ -14,7 +14,7 @@ returns-then-is_open g c =
     let k = g.C.CostModel in
     let known = c.args.self.now in
     let open-here = c.is_open.ensures.0 c.if-is_open.true in
-    offered_from k.model (looked k.exact known.costs.now) (moves_of known.index.now) c.args.c c.moves_from.result.now c.moves_from.ensures (has known.keep.now) (shown k.exact c.cheapest.result) open-here.0 open-here.1 c.cheapest.ensures
+    offered_from k.model (looked k.exact known.costs.now) (moves_of known.index.now) c.args.c c.moves_from.result.now c.moves_from.ensures.from (has known.keep.now) (shown k.exact c.cheapest.result) open-here.0 open-here.1 c.cheapest.ensures
 
 pub cheapest-requires-clause-few : goal.cheapest-requires-clause-few
 cheapest-requires-clause-few g c =
@@ -22,4 +22,4 @@ cheapest-requires-clause-few g c =
     let known = c.args.self.now in
     let index = known.index.now in
     let open-here = c.is_open.ensures.0 c.if-is_open.true in
-    ∥∥₁_map known.spare (λ spare. after_open k.model k.exact known.costs.now (count_of index) (moves_of index) (index_within index) c.args.c c.moves_from.result.now c.moves_from.ensures spare open-here.0)
+    ∥∥₁_map known.spare (λ spare. after_open k.model k.exact known.costs.now (count_of index) (moves_of index) (index_within index) c.args.c c.moves_from.result.now c.moves_from.ensures.from spare open-here.0)

@@ -28,5 +28,5 @@ loop-c-preserved g c =
           (renew_set k.model k.exact ms keep n c.args.d V t i w.offer.result l inv.0 inv.1 w.offer.ensures)
       | else-leads w ↦
           subst (λ u. AllOffered k.model ms keep (i + 1) V (looked k.exact u) × ((d : ℕ) → i + 1 ≤ d → d < n → Apart ms d c.args.d → Offered k.model ms keep V d (looked k.exact u d))) (sym (w.offers-is ∙ set-get_or t i c.index-offers-c.result))
-          (renew_skip k.model k.exact ms keep n c.args.d V t i m inv.0 inv.1 (c.leads.ensures w.if-leads.false))
+          (renew_skip k.model k.exact ms keep n c.args.d V t i m inv.0 inv.1 (c.leads.ensures.apart w.if-leads.false))
     ]

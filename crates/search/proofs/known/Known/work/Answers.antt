@@ -20,7 +20,7 @@ returns-in_err-lowest g c =
     let has : V c.args.c ≡ Some f = ap (shown k.exact) (sym c.cost_at.ensures ∙ c.in_ok-cost.was) in
     let none : Lowest k.model V c.moves_from.result.now f None = subst (Lowest k.model V c.moves_from.result.now f) c.in_err-lowest.was c.operation.ensures in
     let told : Worked k.model k.exact ms V c.args.c None =
-    λ h e o w. none_from k.model V ms c.args.c c.moves_from.result.now c.moves_from.ensures f none o (subst (Worst k.model (After V) (Can ms c.args.c o)) (some_inj (sym e ∙ has)) w) in
+    λ h e o w. none_from k.model V ms c.args.c c.moves_from.result.now c.moves_from.ensures.from f none o (subst (Worst k.model (After V) (Can ms c.args.c o)) (some_inj (sym e ∙ has)) w) in
     search rules
 
 pub returns : goal.returns
@@ -29,7 +29,7 @@ returns g c =
     let V = looked k.exact c.args.self.now.costs.now in
     let f = k.exact c.in_ok-cost.cost in
     let found : Lowest k.model V c.moves_from.result.now f (Some c.in_ok-lowest.lowest) = subst (Lowest k.model V c.moves_from.result.now f) c.in_ok-lowest.was c.operation.ensures in
-    let low = lowest_from k.model V (moves_of c.args.self.now.index.now) c.args.c c.moves_from.result.now c.moves_from.ensures f c.in_ok-lowest.lowest found in
+    let low = lowest_from k.model V (moves_of c.args.self.now.index.now) c.args.c c.moves_from.result.now c.moves_from.ensures.from f c.in_ok-lowest.lowest found in
     (ap (shown k.exact) (sym c.cost_at.ensures ∙ c.in_ok-cost.was), low.0, low.1)
 
 pub operation-requires-clause-few : goal.operation-requires-clause-few
