@@ -56,9 +56,6 @@ stable_decided D W k = (
 basin_formed : WellFormed basin
 basin_formed = (formed_decided basin).0 refl
 
-jamming_formed : WellFormed jamming
-jamming_formed = (formed_decided jamming).0 refl
-
 -- what the test decides: claims of conditions that there are
 abbrev decides : Claim → Bool
 decides (attainable keep goal c) = ltb c 3

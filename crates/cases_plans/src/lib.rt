@@ -5,7 +5,7 @@
 ghost use Rattle.cases_plans.specs.Compare.{CompareSay};
 ghost use Rattle.cases_plans.specs.Costs.{CostsSay, LawfulSay, PricesSay, RunsSay, WeakSay};
 ghost use Rattle.cases_plans.specs.Domains.{DomainsSay};
-ghost use Rattle.cases_plans.specs.Flags.{DropsSay, FlagsSay, ReadingsSay};
+ghost use Rattle.cases_plans.specs.Flags.{ReadingsSay};
 ghost use Rattle.cases_plans.specs.Locks.{LocksSay, LookupsSay};
 ghost use Rattle.cases_plans.specs.Models.{ModelsSay, OrdersSay};
 ghost use Rattle.cases_plans.specs.Plans.{PlansSay};
@@ -54,23 +54,9 @@ pub fn iterations_stand() -> bool
     true
 }
 
-// What is read from lists of flags and numbers.
+// What is read from lists of flags, numbers and tasks.
 pub fn readings_stand() -> bool
     ensures { ReadingsSay }
-{
-    true
-}
-
-// Flags that are dropped.
-pub fn drops_stand() -> bool
-    ensures { DropsSay }
-{
-    true
-}
-
-// Flags and ranks after some steps, and at the end.
-pub fn flags_stand() -> bool
-    ensures { FlagsSay }
 {
     true
 }

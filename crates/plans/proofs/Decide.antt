@@ -4,12 +4,12 @@ use mathlib.Core.Bool.{and-eq-true_iff, false≢true}
 use Rattle.port.specs.Limits.{In}
 use Rattle.port.specs.declared.Move.{Move}
 use Rattle.plans.specs.Plans.{stop, Can, Within}
-use Rattle.plans.specs.Simulation.{Domain, Task, WellFormed, InRange, Holds, Serves, ServesRow, Kept}
+use Rattle.plans.specs.Simulation.{Domain, WellFormed, InRange, Holds, Serves, ServesRow, Kept}
 use Rattle.plans.specs.Iterate.{Iterates}
 use Rattle.plans.specs.Reach.{Attainable, Steps, Member, Closed, some, each, leads, steps, grown, attains, reached, aim, serves, left}
 use Rattle.plans.specs.Flags.{bit}
 use Rattle.plans.specs.Theorems.{ReachedAttains}
-use Rattle.plans.proofs.Attain.{aim_meets, stop_attains, step_attains, closed_has, attainable_wider}
+use Rattle.plans.proofs.Attain.{aim_meets, stop_attains, step_attains, closed_has}
 use Rattle.plans.proofs.Serve.{serves_mono_in, row_le}
 use Rattle.plans.proofs.Count.{same_or_less, sum, sum_most, bit_most, bit_shrinks}
 use Rattle.plans.proofs.Shrink.{iteration_row, stable_kept, stable_soon}
@@ -190,16 +190,6 @@ alike true b f g = sym (f refl)
 alike false true f g = g refl
 alike false false f g = refl
 
--- Goals that agree below n are attained alike.
-pub attains_same : (n : ℕ) (moves : List Move) → Within n moves → (keep goal aims : ℕ → Bool) →
-    ((c : ℕ) → c < n → goal c ≡ aims c) → (c : ℕ) → c < n → attains n moves keep goal c ≡ attains n moves keep aims c
-attains_same n moves wf keep goal aims same c h =
-    alike (attains n moves keep goal c) (attains n moves keep aims c)
-    (λ e. (attains_iff n moves wf keep aims c h).1
-    (attainable_wider n moves wf keep goal keep aims (λ x l k. k) (λ x l g. sym (same x l) ∙ g) c h ((attains_iff n moves wf keep goal c h).0 e)))
-    (λ e. (attains_iff n moves wf keep goal c h).1
-    (attainable_wider n moves wf keep aims keep goal (λ x l k. k) (λ x l g. same x l ∙ g) c h ((attains_iff n moves wf keep aims c h).0 e)))
-
 -- ── what is served, and what is kept ──
 
 pub serves_decided : (D : Domain) → WellFormed D → (R : ℕ → ℕ → Bool) (s c : ℕ) → c < D.conditions →
@@ -233,16 +223,3 @@ row_kept D wf s c r b =
     let t = stable_soon D wf (left D) it in
     (stable_kept D wf (left D) it t.0 t.2 s c r).0
     ((iteration_row D wf (left D) it t.0 s c r).1 (row_le D t.0 (D.stages * D.conditions) s c t.1 b))
-
--- ── goals that agree ──
-
--- What is reached depends on the goal only below the number of conditions.
-pub reached_same : (D : Domain) → WellFormed D → (keep goal aims : ℕ → Bool) → ((c : ℕ) → c < D.conditions → goal c ≡ aims c) →
-    (c : ℕ) → c < D.conditions → reached D keep goal c ≡ reached D keep aims c
-reached_same D wf = attains_same D.conditions D.moves wf.within
-
--- Two sets with the same conditions at a task's end are reached alike.
-pub aim_same : (D : Domain) → WellFormed D → (q : Task) (R S : ℕ → ℕ → Bool) →
-    ((c : ℕ) → c < D.conditions → R q.to c ≡ S q.to c) →
-    (c : ℕ) → c < D.conditions → reached D q.keep (aim R q) c ≡ reached D q.keep (aim S q) c
-aim_same D wf q R S same = reached_same D wf q.keep (aim R q) (aim S q) (λ c l. ap (λ (b : Bool). q.reach c && b) (same c l))

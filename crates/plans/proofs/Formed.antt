@@ -1,7 +1,6 @@
 -- A port's model is valid, and the domain that it tells is well formed.
-use Rattle.std.proofs.Common.{◌≡◌, ℕ, ◌<◌, map, length, get_or, vec_items, sym, subst, arith}
+use Rattle.std.proofs.Common.{◌≡◌, ℕ, ◌<◌, map, length, vec_items, sym, subst, arith}
 use lib.ListN.{length-map}
-use Rattle.std.proofs.lemmas.List.{get_or-map}
 use Rattle.port.specs.Limits.{In, MovesExist, TextOk, no_move}
 use Rattle.port.specs.Model.{Model, RequestModel, request_model, model_of}
 use Rattle.port.specs.Valid.{Valid}
@@ -9,7 +8,6 @@ use Rattle.port.specs.declared.Move.{Move}
 use Rattle.port.specs.declared.held.Port.{Port}
 use Rattle.plans.specs.Simulation.{Task, WellFormed}
 use Rattle.plans.specs.Domains.{task_of, domain_of}
-use Rattle.plans.specs.Flags.{task_at, no_task}
 use Rattle.plans.proofs.Index.{at_all, of_map}
 
 pub port_valid : (p : Port) → Valid (model_of p)
@@ -69,10 +67,6 @@ domain_formed m v = record { within = within; staged = staged }
 
 pub port_formed : (p : Port) → WellFormed (domain_of (model_of p))
 port_formed p = domain_formed (model_of p) (port_valid p)
-
--- The task at a place is that of the request there.
-pub task_at_of : (m : Model) (i : ℕ) (q : RequestModel) → i < length m.requests → task_at (domain_of m) i ≡ task_of m (get_or m.requests i q)
-task_at_of m i q l = get_or-map (task_of m) m.requests i q no_task l
 
 pub tasks_length : (m : Model) → length (domain_of m).tasks ≡ length m.requests
 tasks_length m = length-map m.requests (task_of m)

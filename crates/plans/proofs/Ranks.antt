@@ -1,5 +1,5 @@
 -- The largest simulation, and the one rank of each pair.
-use Rattle.std.proofs.Common.{◌≡◌, ℕ, zero, suc, ◌*◌, ◌≤◌, Bool, true, false, refl, ap, subst, le_antisymm, arith}
+use Rattle.std.proofs.Common.{◌≡◌, ℕ, zero, suc, ◌*◌, ◌≤◌, Bool, true, false, refl, ap, le_antisymm, arith}
 use native.Mathlib.Decide.{dec_le}
 use Rattle.plans.specs.Simulation.{Domain, WellFormed, InRange, Kept, Rank}
 use Rattle.plans.specs.Iterate.{Stable}
@@ -49,9 +49,3 @@ pub one_rank : OneRank
 one_rank D wf s c r =
     let t = rank_of D wf s c r in
     (t.0, t.1, t.2, λ j a. rank_unique D s c j t.0 a t.2)
-
--- A rank is at most the number of pairs.
-pub rank_most : (D : Domain) → WellFormed D → (s c k : ℕ) → InRange D s c → Rank D s c k → k ≤ D.stages * D.conditions
-rank_most D wf s c k r a =
-    let t = rank_of D wf s c r in
-    subst (λ (j : ℕ). j ≤ D.stages * D.conditions) (rank_unique D s c t.0 k t.2 a) t.1

@@ -14,10 +14,6 @@ pub serves_monotone : (D : Domain) (R S : ℕ → ℕ → Bool) →
     ((s c : ℕ) → Holds R s c → Holds S s c) → (s c : ℕ) → Serves D (Holds R) s c → Serves D (Holds S) s c
 serves_monotone D R S = serves_mono D (Holds R) (Holds S)
 
-pub row_down : (D : Domain) (k s c : ℕ) → ServesRow D (suc k) s c → ServesRow D k s c
-row_down D zero s c h = tt
-row_down D (suc k) s c h = serves_mono D (ServesRow D (suc k)) (ServesRow D k) (row_down D k) s c h
-
 pub row_le : (D : Domain) (i j s c : ℕ) → i ≤ j → ServesRow D j s c → ServesRow D i s c
 row_le D zero j s c l h = tt
 row_le D (suc i) zero s c l h = absurd (omega arith)
