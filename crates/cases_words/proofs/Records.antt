@@ -1,15 +1,13 @@
 -- The rows of records.
-use Rattle.std.proofs.Common.{ℕ, Bool, true, ◌&&◌, ltb, leb, List, [], ◌∷◌, ◌++◌, length, refl}
-use Rattle.std.specs.Bool.{Decides}
-use Rattle.std.proofs.lemmas.Bool.Decides.{Decides-and, Decides-ltb}
+use Rattle.std.proofs.Common.{ℕ, List, [], ◌∷◌, ◌++◌, length, refl}
 use Rattle.formula.specs.Grammar.{step, goes, verdict}
 use Rattle.port.specs.declared.Move.{Move}
 use Rattle.port.specs.Model.{Model, RequestModel}
-use Rattle.reading.specs.Reading.{and_then, provided, byte, bytes, number, field, minutes, text_length, whole_text, judged, text, rises, condition, move, request, Head, admitted, head, body, Entry, condition_entry, move_entry, request_entry, entry, Sized, EntrySized, add}
-use Rattle.cases_words.specs.Records.{conditions, moves, requests, tests, begins, entries, grown, SizedRow, sized, SizedHold, LengthRow, lengths, LengthsHold, ConditionsShown, MovesShown, RequestsShown, RecordTestsShown, BeginsShown, EntriesShown, GrownShown}
-use Rattle.cases_words.proofs.Rows.{all_shown, all_said}
+use Rattle.reading.specs.Reading.{and_then, provided, byte, bytes, number, field, minutes, text_length, whole_text, judged, text, rises, condition, move, request, Head, admitted, head, body, Entry, condition_entry, move_entry, request_entry, entry, add}
+use Rattle.cases_words.specs.Records.{conditions, moves, requests, tests, begins, entries, grown, ConditionsShown, MovesShown, RequestsShown, RecordTestsShown, BeginsShown, EntriesShown, GrownShown}
+use Rattle.cases_words.proofs.Rows.{all_shown}
 use Rattle.cases_words.proofs.Bits.{bit_code}
-use Rattle.cases_words.proofs.Limits.{leb_decides, move_code}
+use Rattle.cases_words.proofs.Limits.{move_code}
 use Rattle.cases_words.proofs.Fields.{step_code, header_code, number_code}
 
 abbrev request_code : RequestModel → List ℕ
@@ -61,27 +59,3 @@ entries_shown = all_shown (step_code entry_code) entries refl refl
 pub grown_shown : GrownShown
 unfolding add
 grown_shown = all_shown model_code grown refl refl
-
--- ── the sizes of texts ──
-
-abbrev fits : List ℕ → Bool
-fits w = ltb 0 (length w) && leb (length w) 63
-
-fits_decides : (w : List ℕ) → Decides (fits w) (Sized w)
-fits_decides w = Decides-and (ltb 0 (length w)) (leb (length w) 63) (Decides-ltb 0 (length w)) (leb_decides (length w) 63)
-
-abbrev entry_fits : Entry → Bool
-entry_fits (condition_entry c) = true
-entry_fits (move_entry v) = true
-entry_fits (request_entry w) = fits w.keep && fits w.reach
-
-entry_decides : (e : Entry) → Decides (entry_fits e) (EntrySized e)
-entry_decides (condition_entry c) = (λ e. tt, λ h. refl)
-entry_decides (move_entry v) = (λ e. tt, λ h. refl)
-entry_decides (request_entry w) = Decides-and (fits w.keep) (fits w.reach) (fits_decides w.keep) (fits_decides w.reach)
-
-pub sized_hold : SizedHold
-sized_hold = all_said _ (λ (r : SizedRow). entry_fits r.entry) (λ (r : SizedRow). r.holds) (λ r. entry_decides r.entry) sized refl
-
-pub lengths_hold : LengthsHold
-lengths_hold = all_said _ (λ (r : LengthRow). fits r.text) (λ (r : LengthRow). r.holds) (λ r. fits_decides r.text) lengths refl

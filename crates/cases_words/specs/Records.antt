@@ -4,11 +4,10 @@ use Rattle.faults.specs.declared.layers.RecordFault.TheVariants.{Kind, Map}
 use Rattle.faults.specs.declared.layers.PortFault.TheVariants.{Record, Missing, Sequence, Many}
 use Rattle.port.specs.declared.Header.{Header}
 use Rattle.port.specs.declared.Move.{Move}
-use Rattle.port.specs.Limits.{In}
 use Rattle.port.specs.Model.{Model, RequestModel}
-use Rattle.reading.specs.Reading.{Step, got, fault, condition, move as move_read, request as request_read, none, follows, room, Head, admitted, head, body, Entry, condition_entry, move_entry, request_entry, entry, Sized, EntrySized, empty, add}
-use Rattle.cases_words.specs.Rows.{Said, Row, gives, Shown}
-use Rattle.cases_words.specs.Limits.{move, not_not}
+use Rattle.reading.specs.Reading.{Step, got, fault, condition, move as move_read, request as request_read, none, follows, room, Head, admitted, head, body, Entry, condition_entry, move_entry, request_entry, entry, empty, add}
+use Rattle.cases_words.specs.Rows.{Row, gives, Shown}
+use Rattle.cases_words.specs.Limits.{move}
 use Rattle.cases_words.specs.Ports.{header, request, port, numbers, repeated, go, many_moves}
 use Rattle.cases_words.specs.Fields.{ends, absent_at, no_formula}
 
@@ -167,41 +166,6 @@ grown =
     gives (add three (move_entry (move 1 0 0 0))) (port counts (0 ∷ 1 ∷ 3 ∷ []) (move 0 1 1 7 ∷ move 1 0 0 0 ∷ []) []) (port counts (0 ∷ 1 ∷ 3 ∷ []) (move 1 0 0 0 ∷ []) []) ∷
     gives (add late (request_entry (request 1 0 (codes "a") (codes "b")))) (port counts (0 ∷ 1 ∷ 3 ∷ []) [] (go ∷ request 1 0 (codes "a") (codes "b") ∷ [])) late ∷
     []
-
--- records whose texts have 1 to 63 bytes
-pub record SizedRow : Type 0 where
-  pub entry : Entry
-  pub holds : Bool
-
-abbrev pub sized : List SizedRow
-sized =
-    record { entry = condition_entry 70000; holds = true } ∷
-    record { entry = move_entry (move 0 0 0 70000); holds = true } ∷
-    record { entry = request_entry (request 0 0 (codes "(") (not_not 31 (codes "a"))); holds = true } ∷
-    record { entry = request_entry (request 0 0 [] (codes "a")); holds = false } ∷
-    record { entry = request_entry (request 0 0 (codes "a") []); holds = false } ∷
-    record { entry = request_entry (request 0 0 (33 ∷ not_not 31 (codes "a")) (codes "a")); holds = false } ∷
-    record { entry = request_entry (request 0 0 (codes "a") (33 ∷ not_not 31 (codes "a"))); holds = false } ∷
-    []
-
-abbrev pub SizedHold : Type 0
-SizedHold = (r : SizedRow) → In r sized → Said r.holds (EntrySized r.entry)
-
--- and the same of a text
-pub record LengthRow : Type 0 where
-  pub text : List ℕ
-  pub holds : Bool
-
-abbrev pub lengths : List LengthRow
-lengths =
-    record { text = codes "("; holds = true } ∷
-    record { text = not_not 31 (codes "a"); holds = true } ∷
-    record { text = []; holds = false } ∷
-    record { text = not_not 32 []; holds = false } ∷
-    []
-
-abbrev pub LengthsHold : Type 0
-LengthsHold = (r : LengthRow) → In r lengths → Said r.holds (Sized r.text)
 
 abbrev pub ConditionsShown : Type 0
 ConditionsShown = Shown conditions

@@ -1,6 +1,6 @@
 // Sheets: how they are read, how they are written, and what is proved of the two.
 ghost use Rattle.cases_words.specs.Fields.{AmountsShown, ConstantsShown, FieldTextsShown, HeadingsShown, NumbersShown, TestsShown};
-ghost use Rattle.cases_words.specs.Records.{BeginsShown, ConditionsShown, EntriesShown, GrownShown, LengthsHold, MovesShown, RecordTestsShown, RequestsShown, SizedHold};
+ghost use Rattle.cases_words.specs.Records.{BeginsShown, ConditionsShown, EntriesShown, GrownShown, MovesShown, RecordTestsShown, RequestsShown};
 ghost use Rattle.cases_words.specs.Sheets.{BytesHold, JudgementsHold, MapBitsShown, Needed, OnliesHold, ReadsShown, WrittenShown};
 
 // Numbers that are read from a sheet, and where they are at fault.
@@ -90,20 +90,6 @@ pub fn entries_stand() -> bool
 // A port with one record more.
 pub fn grown_stand() -> bool
     ensures { GrownShown }
-{
-    true
-}
-
-// Records whose texts have 1 to 63 bytes.
-pub fn sized_stand() -> bool
-    ensures { SizedHold }
-{
-    true
-}
-
-// Texts of 1 to 63 bytes.
-pub fn lengths_stand() -> bool
-    ensures { LengthsHold }
 {
     true
 }

@@ -1,9 +1,7 @@
 -- Moves joined onto costs.
-use Rattle.std.proofs.Common.{◌≡◌, ℕ, List, [], ◌∷◌, ◌++◌, refl, ap, subst}
+use Rattle.std.proofs.Common.{◌≡◌, ℕ, List, [], ◌∷◌, ◌++◌, refl, ap}
 use Rattle.port.specs.declared.Move.{Move}
-use Rattle.plans.specs.Plans.{Plan}
 use Rattle.costs.specs.Costs.{Model, WeakLaws, Sized, Le}
-use Rattle.search.specs.Answers.{Costs}
 use Rattle.histories.specs.Errands.{onto}
 
 module _ {k : Model} (laws : WeakLaws k) where
@@ -14,13 +12,6 @@ module _ {k : Model} (laws : WeakLaws k) where
   pub onto_keeps : (ms : List Move) (f g : List ℕ) → Sized k f → Sized k g → Le k f g → Le k (onto k ms f) (onto k ms g)
   onto_keeps [] f g s t h = h
   onto_keeps (m ∷ ms) f g s t h = laws.keeps m _ _ (onto_sized ms f s) (onto_sized ms g t) (onto_keeps ms f g s t h)
-
-  -- a plan has one cost
-  pub costs_once : (moves : List Move) (p : Plan) (c : ℕ) (f g : List ℕ) → Sized k f → Sized k g → Costs k moves p c f → Costs k moves p c g → f ≡ g
-  costs_once moves p c f g sf sg v w =
-      laws.tie f g sf sg
-      (subst (λ (x : List ℕ). Le k x g) v.some.2 (w.most v.some.0 v.some.1))
-      (subst (λ (x : List ℕ). Le k x f) w.some.2 (v.most w.some.0 w.some.1))
 
 pub onto_more : (k : Model) (ms : List Move) (m : Move) (f : List ℕ) → onto k (ms ++ (m ∷ [])) f ≡ onto k ms (k.join m f)
 onto_more k [] m f = refl

@@ -4,8 +4,7 @@ use lib.Seq.{take-append_seam, drop-append_seam}
 use Rattle.formula.specs.Grammar.{verdict}
 use Rattle.port.specs.declared.Move.{Move}
 use Rattle.port.specs.Model.{Model, RequestModel}
-use Rattle.faults.specs.declared.layers.PortFault.{PortFault}
-use Rattle.reading.specs.Reading.{Step, got, and_then, provided, byte, bytes, number, field, minutes, text_length, whole_text, text, absent, same, denied, both, rises, low_limit, high_limit, condition, move, request, follows, room, map_limit, Head, admitted, head, body, entry, opening_bytes, opening, count, start_stage, heading, Entry, condition_entry, move_entry, request_entry, add, held, records, reading}
+use Rattle.reading.specs.Reading.{Step, got, and_then, byte, bytes, number, field, minutes, text_length, whole_text, text, absent, same, denied, both, rises, low_limit, high_limit, condition, move, request, follows, room, map_limit, Head, admitted, head, body, entry, opening_bytes, opening, count, start_stage, heading, Entry, condition_entry, move_entry, request_entry, add, held, records, reading}
 use mathlib.Core.List as List
 use Rattle.reading.specs.SheetOf.{number_bytes, minutes_bytes, text_bytes, bit_of, text_bit, condition_bytes, move_bytes, request_bytes, joined, records_of, header_of, sheet_of}
 use Rattle.port.specs.Limits.{TextOk, key}
@@ -143,9 +142,6 @@ request_gets m map_at w p r h1 h2 h3 h4 =
     then_gets _ _ w.keep _ w r (text_gets _ _ w.keep q2 _ (bit2 _ _ _ _ s0 s1 s2 s3) h3) (λ q3.
     then_gets _ _ w.reach r w r (text_gets _ _ w.reach q3 r (bit3 _ _ _ _ s0 s1 s2 s3) h4) (λ q4.
     (q4, refl))))))
-
-if_gets : {V : Type 0} (b : Bool) (e : PortFault) (x : Step V) (v : V) (r : List ℕ) → b ≡ true → Gets x v r → Gets (provided b e x) v r
-if_gets b e x v r h g = (g.0, passed e x h ∙ g.1)
 
 head_gets : (m : Model) (k map p : ℕ) (s : List ℕ) → follows m k ≡ true → room m k ≡ true → map < map_limit k → Gets (head m p (k ∷ map ∷ s)) (record { kind = k; place = p; map = map; map_place = p + 1 }) s
 unfolding head admitted byte and_then

@@ -7,7 +7,7 @@ use Rattle.port.specs.declared.Header.{Header}
 use Rattle.port.specs.declared.Move.{Move}
 use Rattle.port.specs.Model.{Model, RequestModel}
 use Rattle.faults.specs.declared.layers.PortFault.TheVariants.{Start}
-use Rattle.reading.specs.Reading.{Step, got, fault, and_then, byte, bytes, number, field, minutes, text_length, whole_text, judged, text, both, rises, low_limit, high_limit, present, condition, move, request, follows, room, none, Head, head, body, entry, opening, count, start_stage, heading, Entry, condition_entry, move_entry, request_entry, add, empty, held, refused, finish, records, reading, EntrySized}
+use Rattle.reading.specs.Reading.{Step, got, fault, and_then, byte, bytes, number, field, minutes, text_length, whole_text, judged, text, both, rises, low_limit, high_limit, present, condition, move, request, follows, room, none, Head, head, body, entry, opening, count, start_stage, heading, Entry, condition_entry, move_entry, request_entry, add, empty, held, refused, finish, records, reading}
 use Rattle.formula.specs.Truth.{is_whole}
 use Rattle.port.specs.Limits.{In, no_move, Marked, Rise, key, MovesExist, MovesRise, TextOk}
 use Rattle.port.specs.Valid.{Valid}
@@ -16,9 +16,6 @@ use Rattle.reading.proofs.Sound.{Post, then_post, if_post, admitted_post, both_t
 
 abbrev Below : ℕ → ℕ → List ℕ → Type 0
 Below n v r = v < n
-
-abbrev Any : {V : Type 0} → V → List ℕ → Type 0
-Any v r = Unit {0}
 
 any_post : {V : Type 0} (x : Step V) → Post (λ (v : V) (r : List ℕ). Unit {0}) x
 any_post (got v q r) = tt
@@ -124,15 +121,6 @@ entry_fine m p s =
     then_post (λ (v : ℕ) (r : List ℕ). Unit {0}) F (byte q r) _ (any_post (byte q r)) (λ b q' r' _.
     if_post F _ _ (got (record { kind = k; place = p; map = b; map_place = q }) q' r') (λ _. (fol, roomy))))))
     (λ h q r ok. body_by m h.kind h.place h.map_place h.map q r (eqb h.kind 1) (eqb h.kind 2) refl ok.0 ok.1)
-
--- the texts of an entry that is read have 1 to 63 bytes
-joins_sized : (m : Model) (e : Entry) (r : List ℕ) → Joins m e r → EntrySized e
-joins_sized m (condition_entry c) r j = tt
-joins_sized m (move_entry v) r j = tt
-joins_sized m (request_entry w) r j = ((j.3.0, j.3.1), (j.4.0, j.4.1))
-
-pub entry_sized : (m : Model) (p : ℕ) (s : List ℕ) (e : Entry) (q : ℕ) (r : List ℕ) → entry m p s ≡ got e q r → EntrySized e
-entry_sized m p s e q r h = joins_sized m e r (subst (Post (Joins m)) h (entry_fine m p s))
 
 -- the limits that what was read so far keeps to
 record Sofar (m : Model) : Type 0 where

@@ -1,20 +1,12 @@
 -- One byte, some bytes, and equal texts.
-use Rattle.std.proofs.Common.{◌≡◌, ℕ, zero, suc, ◌+◌, ◌-◌, ◌/◌, ◌%◌, ◌^◌, ◌<◌, ◌≤◌, Bool, true, false, cond, eqb, ltb, leb, List, [], ◌∷◌, length, get_or, take, drop, Decides, sym, refl, ap, ◌∙◌, arith, length-drop, length-take-le, take_all, ltb-false, ltb-true, le-ltb, lt-ltb, eq-eqb, ne_eqb, eqb-true, le-leb, leb-true}
-use mathlib.Core.List as List
-use native.Mathlib.Nat.{sub-zero}
-use lib.Bits.{bit_and, and_mask}
-use lib.ListN.{length-map}
+use Rattle.std.proofs.Common.{◌≡◌, ℕ, ◌+◌, ◌-◌, ◌<◌, ◌≤◌, Bool, true, false, cond, eqb, ltb, leb, List, [], ◌∷◌, length, get_or, take, drop, Decides, sym, refl, ap, ◌∙◌, arith, length-take-le, take_all, ltb-true, eq-eqb, eqb-true, leb-true}
 use borrow.Author.Tests.{lt-leb, clash}
 use Rattle.faults.specs.declared.layers.ByteFault.TheVariants.{Ends}
-use Rattle.faults.specs.declared.layers.RecordFault.{RecordFault}
-use Rattle.faults.specs.declared.layers.RecordFault.TheVariants.{Byte, Formula, Kind, Map}
+use Rattle.faults.specs.declared.layers.RecordFault.TheVariants.{Byte, Formula, Map}
 use Rattle.faults.specs.declared.layers.PortFault.{PortFault}
 use Rattle.faults.specs.declared.layers.PortFault.TheVariants.{Record}
-use Rattle.reading.specs.Reading.{Step, got, fault, and_then, provided, byte, bytes, judged, same, both, rises, follows, map_limit, admitted, field, minutes, text, Head, head, body, condition, move, request, condition_entry, move_entry, request_entry}
-use Rattle.port.specs.Limits.{key}
+use Rattle.reading.specs.Reading.{Step, got, fault, and_then, provided, byte, bytes, judged, same, both, map_limit, admitted, field, minutes, Head, head, body, condition, move, request, condition_entry, move_entry, request_entry}
 use Rattle.port.specs.Model.{Model}
-use Rattle.port.specs.declared.Move.{Move}
-use Rattle.std.proofs.lemmas.List.{get_or-map}
 use Rattle.formula.specs.Grammar.{Verdict, whole, stuck}
 use Rattle.formula.specs.declared.FormulaFault.{FormulaFault}
 
@@ -50,12 +42,6 @@ pub bytes_short : (n p : ℕ) (s : List ℕ) → length s < n → bytes n p s �
 unfolding bytes provided
 bytes_short n p s h = rw (lt-leb n (length s) h)
 
-pub bytes_all : (n p : ℕ) (s : List ℕ) → n ≤ length s → bytes n p s ≡ got (take (n - 0) s) (p + n) (take (length s - n) (drop n s))
-unfolding bytes provided
-bytes_all n p s h =
-    let rest : take (length s - n) (drop n s) ≡ drop n s = take_all _ _ (simp length-drop (omega arith)) in
-    rw (le-leb n (length s) h, sub-zero n, rest)
-
 -- the place of a field that is present, and of one that is absent
 pub place_here : (b : Bool) (p at x : ℕ) → b ≡ true → x ≡ p → cond b p at ≡ x
 place_here true p at x h e = sym e
@@ -80,17 +66,6 @@ bytes_place_by false n p q s w r h e = let z : ◌≡◌ {A = ℕ} 0 1 = cc in a
 pub bytes_place : (n p q : ℕ) (s w r : List ℕ) → bytes n p s ≡ got w q r → (length w ≡ n) × (q ≡ p + n)
 unfolding bytes
 bytes_place n p q s w r e = bytes_place_by (leb n (length s)) n p q s w r refl e
-
--- the one byte of an absent text
-pub one_byte : (w : List ℕ) → length w ≡ 1 → eqb (get_or w 0 0) 49 ≡ same w (49 ∷ [])
-one_byte [] h = absurd (omega arith)
-one_byte (x ∷ []) h = elim (eqb x 49) as (λ t. t ≡ cond t true false) [ true ↦ refl | false ↦ refl ]
-one_byte (x ∷ y ∷ w) h = absurd (omega arith)
-
-pub not_one : (w : List ℕ) → (length w ≡ 1 → ⊥) → eqb (length w) 1 ≡ same w (49 ∷ [])
-not_one [] h = refl
-not_one (x ∷ []) h = absurd (h refl)
-not_one (x ∷ y ∷ w) h = ne_eqb _ 1 (λ e. omega arith) ∙ elim (eqb x 49) as (λ t. false ≡ cond t false false) [ true ↦ refl | false ↦ refl ]
 
 pub judged_whole : (p : ℕ) (v : Verdict) (x : Step (List ℕ)) → v ≡ whole → judged p v x ≡ x
 unfolding judged
@@ -138,54 +113,12 @@ same_decided xs ys false h = by (same xs ys) refl
     by true e = absurd (clash (h.1 (same_true xs ys e)))
     by false e = refl
 
-get_d_default : (xs : List ℕ) (k d e : ℕ) → k < length xs → get_or xs k d ≡ get_or xs k e
-get_d_default [] k d e lt = absurd (omega arith)
-get_d_default (x ∷ xs) zero d e lt = refl
-get_d_default (x ∷ xs) (suc k) d e lt = get_d_default xs k d e (omega arith)
-
--- above the last of a list: none, or the last one
-pub rises_none : (xs : List ℕ) (n v : ℕ) → n ≡ length xs → n ≡ 0 → eqb n 0 ≡ rises xs v
-unfolding rises
-rises_none xs n v e z = rw (sym e, z) refl
-
-pub rises_last : (xs : List ℕ) (n v l : ℕ) → n ≡ length xs → (n ≡ 0 → ⊥) → l ≡ get_or xs (n - 1) l → ltb l v ≡ rises xs v
-unfolding rises
-rises_last xs n v l e z is =
-    let last : get_or xs (length xs - 1) 0 ≡ l = rw (sym e) (get_d_default xs (n - 1) 0 l (omega arith) ∙ sym is) in
-    rw (last, sym e, ne_eqb n 0 z) refl
-
-pub rises_key : (ms : List Move) (n v : ℕ) (l : Move) (k : ℕ) → n ≡ length ms → (n ≡ 0 → ⊥) → l ≡ get_or ms (n - 1) l → k ≡ key l → ltb k v ≡ rises (List.map key ms) v
-rises_key ms n v l k e z is f =
-    rises_last (List.map key ms) n v k (e ∙ sym (length-map ms key)) z
-    (f ∙ ap key is ∙ sym (get_or-map key ms (n - 1) l k (omega (arith, e))))
-
--- what may follow, by the kind
-module _ (m : Model) (k a b d : ℕ) (cs : a ≡ length m.conditions) (bs : b ≡ length m.moves) (ds : d ≡ length m.requests) where
-  pub follows_1 : k ≡ 1 → both (eqb b 0) (eqb d 0) ≡ follows m k
-  follows_1 e = rw (e, sym bs, sym ds) refl
-
-  pub follows_2 : k ≡ 2 → eqb d 0 ≡ follows m k
-  follows_2 e = rw (e, sym ds) refl
-
--- a field, minutes and a text under another name of the bit that says whether it is there, and of its limit
+-- a field and minutes under another name of the bit that says whether they are there, and of its limit
 pub field_told : {b c : Bool} {n l : ℕ} {x : Step ℕ} (at p : ℕ) (s : List ℕ) → b ≡ c → n ≡ l → field b at n p s ≡ x → field c at l p s ≡ x
 field_told at p s bit e h = sym (λ i. field (bit i) at (e i) p s) ∙ h
 
 pub minutes_told : {b c : Bool} {x : Step ℕ} (p : ℕ) (s : List ℕ) → b ≡ c → minutes b p s ≡ x → minutes c p s ≡ x
 minutes_told p s bit h = sym (λ i. minutes (bit i) p s) ∙ h
-
-pub text_told : {b c : Bool} {x : Step (List ℕ)} (marks p : ℕ) (s : List ℕ) → b ≡ c → text b marks p s ≡ x → text c marks p s ≡ x
-text_told marks p s bit h = sym (λ i. text (bit i) marks p s) ∙ h
-
--- a bit of a map
-pub bit_told : (n k : ℕ) → eqb (bit_and (n / 2 ^ k) 1) 1 ≡ eqb (n / 2 ^ k % 2) 1
-bit_told n k = ap (λ b. eqb b 1) (and_mask (n / 2 ^ k) 1)
-
--- what is judged of a kind byte
-module _ (m : Model) (k p : ℕ) (x : Step Head) where
-  pub kind_refused : {e : RecordFault} → e ≡ Kind p → follows m k ≡ false → admitted m k p x ≡ fault (Record e)
-  unfolding admitted
-  kind_refused is h = failed _ _ h ∙ ap (λ y. fault (Record y)) (sym is)
 
 -- how a record begins, by the count of its bytes
 pub head_none : (m : Model) (p : ℕ) (s : List ℕ) → length s ≡ 0 → head m p s ≡ fault (Record (Byte (Ends p)))
@@ -245,11 +178,3 @@ module _ (m : Model) (h : Head) (p : ℕ) (s : List ℕ) where
   pub body_3 : h.kind ≡ 3 → body m h p s ≡ and_then (request m h.map_place h.map p s) (λ w q r. got (request_entry w) q r)
   unfolding body
   body_3 e = rw e refl
-
--- one order of numbers under two names
-pub ltb_same : (a b c d : ℕ) → (a < b → c < d) → (b ≤ a → d ≤ c) → ltb a b ≡ ltb c d
-ltb_same a b c d up down = by (ltb a b) refl
-  where
-    by : (t : Bool) → ltb a b ≡ t → t ≡ ltb c d
-    by true e = sym (lt-ltb c d (up (ltb-true a b e)))
-    by false e = sym (le-ltb c d (down (ltb-false a b e)))

@@ -1,5 +1,5 @@
 -- How a sheet is read, in the order of its checks.
-use Rattle.std.specs.Prelude.{ℕ, zero, suc, ◌+◌, ◌-◌, ◌*◌, ◌/◌, ◌%◌, ◌^◌, ◌<◌, ◌≤◌, min, Bool, true, false, cond, List, [], ◌∷◌, ◌++◌, length, take, drop, ◌==◌, nat_le, nat_lt, slice_index}
+use Rattle.std.specs.Prelude.{ℕ, zero, suc, ◌+◌, ◌-◌, ◌*◌, ◌/◌, ◌%◌, ◌^◌, min, Bool, true, false, cond, List, [], ◌∷◌, ◌++◌, length, take, drop, ◌==◌, nat_le, nat_lt, slice_index}
 use mathlib.Core.List as List
 use Rattle.formula.specs.Grammar.{Verdict, verdict, whole, stuck}
 use Rattle.port.specs.declared.Header.{Header}
@@ -92,16 +92,6 @@ pub data Entry : Type 0 where
   condition_entry : ℕ → Entry
   move_entry : Move → Entry
   request_entry : RequestModel → Entry
-
--- a text has 1 to 63 bytes
-abbrev pub Sized : List ℕ → Type 0
-Sized w = (0 < length w) × (length w ≤ 63)
-
--- so have the texts of a record
-abbrev pub EntrySized : Entry → Type 0
-EntrySized (condition_entry c) = Unit {0}
-EntrySized (move_entry v) = Unit {0}
-EntrySized (request_entry w) = Sized w.keep × Sized w.reach
 
 -- the number is above the last of the list
 unfoldable pub rises : List ℕ → ℕ → Bool

@@ -1,19 +1,12 @@
 -- Tests of numbers, as the code and the reading write them.
-use Rattle.std.proofs.Common.{◌≡◌, ℕ, ◌+◌, ◌-◌, ◌*◌, ◌<◌, Bool, true, ltb, List, [], ◌∷◌, length, get_or, sym, ap, ◌∙◌, arith, ne_eqb}
+use Rattle.std.proofs.Common.{◌≡◌, ℕ, ◌-◌, ◌<◌, Bool, true, ltb, List, [], ◌∷◌, length, get_or, sym, ap, ◌∙◌, arith, ne_eqb}
 use mathlib.Core.List as List
 use lib.ListN.{length-map}
-use Rattle.std.proofs.lemmas.Bool.Decides.{nat_tests}
-use Rattle.std.specs.Ordering.{nat_cmp, is_lt, is_some_and, partial_ordering_then}
 use Rattle.std.specs.Prelude.{Option, Some, None, MatchOption, option_map}
 use Rattle.std.specs.List.{slice_get}
 use Rattle.std.proofs.lemmas.Option.{none-some, slice_get-get_or, slice_get_within, get_or_from_slice_get}
 use Rattle.std.proofs.lemmas.List.{get_or-map}
 use Rattle.reading.specs.Reading.{rises}
-
--- the order of three numbers, of which the later two are bytes, is that of one number made of them
-pub three_before : (a b c d e f : ℕ) → b < 256 → c < 256 → e < 256 → f < 256 →
-    is_some_and is_lt (partial_ordering_then (partial_ordering_then (Some (nat_cmp a d)) (Some (nat_cmp b e))) (Some (nat_cmp c f))) ≡ ltb (65536 * a + 256 * b + c) (65536 * d + 256 * e + f)
-three_before a b c d e f hb hc he hf = grind (arith, nat_tests)
 
 -- a number is above the last of those that a list comes to, if there is no last one or it is above that one
 pub rises_by : {A B : Type 0} (now : A → B) (f : B → ℕ) (xs : List B) (v : ℕ) (o : Option A) (b : Bool) (Q : A → Type 0) → option_map now o ≡ slice_get xs (length xs - 1) → MatchOption o (b ≡ true) Q → ((x : A) → Q x → b ≡ ltb (f (now x)) v) → b ≡ rises (List.map f xs) v

@@ -1,5 +1,5 @@
 -- Choices and ranks that are written to the front of buffers are a policy with its ranks.
-use Rattle.std.proofs.Common.{◌≡◌, ℕ, ◌+◌, ◌*◌, ◌<◌, true, List, ◌++◌, map, length, get_or, take, drop, vec_items, vec_len, sym, refl, ap, ◌∙◌, subst, ap₂, arith}
+use Rattle.std.proofs.Common.{◌≡◌, ℕ, ◌+◌, ◌*◌, ◌<◌, true, List, ◌++◌, map, length, get_or, take, drop, vec_len, sym, refl, ap, ◌∙◌, subst, arith}
 use Rattle.std.proofs.Math.Seq.{drop-append_seam, take-append_seam}
 use lib.ListN.{length-map}
 use Rattle.std.proofs.lemmas.List.{get_or-map, get_or-take, take_all, take-map}
@@ -11,11 +11,11 @@ use Rattle.search.specs.declared.Choice.{Choice}
 use Rattle.search.specs.declared.Choice.TheVariants.{None}
 use Rattle.solver.specs.Choices.{entry_of, exact_of}
 use Rattle.solver.specs.Policy.{World, Solved, Right, world_of}
-use Rattle.solver.specs.Solving.{Filled, Tabled, Worked, enough, largest_of, pairs_of, places_of, start_of, zeros}
+use Rattle.solver.specs.Solving.{Filled, Tabled, Worked, enough, largest_of, pairs_of, start_of, zeros}
 use Rattle.solver.specs.declared.Summary.{Summary}
-use Rattle.port.specs.Model.{model_of, request_model}
+use Rattle.port.specs.Model.{model_of}
 use Rattle.port.specs.declared.held.Port.{Port}
-use Rattle.plans.specs.Domains.{domain_of, task_of}
+use Rattle.plans.specs.Domains.{domain_of}
 use Rattle.solver.specs.declared.Entry.{Entry}
 use Rattle.solver.specs.declared.Entry.TheVariants.{None as NoEntry, There as ThereEntry, Work as WorkEntry}
 use Rattle.solver.proofs.KeptSets.{kept_largest, kept_simulates}
@@ -143,13 +143,6 @@ module _ {K : Type 0} (k : Model) (e : K → List ℕ) (D : Domain) (start_at : 
 -- ── a port's counts ──
 
 module _ (p : Port) where
-  -- as many requests as tasks
-  pub port_tasks : vec_len p.requests ≡ length (domain_of (model_of p)).tasks
-  port_tasks = p.requests.ok.0 ∙ sym (length-map (vec_items p.requests) request_model) ∙ sym (length-map (map request_model (vec_items p.requests)) (task_of (model_of p)))
-
-  pub port_places : vec_len p.requests * vec_len p.conditions ≡ places_of (domain_of (model_of p))
-  port_places = ap₂ ◌*◌ port_tasks p.conditions.ok.0
-
   pub port_pairs : p.header.stages * vec_len p.conditions ≡ pairs_of (domain_of (model_of p))
   port_pairs = ap (λ (n : ℕ). p.header.stages * n) p.conditions.ok.0
 
