@@ -12,50 +12,36 @@ mod toll;
 pub use toll::{Fare, Toll, solve_toll};
 
 // Formulas have the values that their rows say.
-pub fn formulas_stand() -> bool
+pub fn formulas_stand()
     ensures { FormulasHold }
-{
-    true
-}
+{}
 
 // Texts that are no formula stop being one where their rows say.
-pub fn faulty_formulas_stand() -> bool
+pub fn faulty_formulas_stand()
     ensures { FaultyHold }
-{
-    true
-}
+{}
 
 // Sheets are read as their rows say.
-pub fn sheets_stand() -> bool
+pub fn sheets_stand()
     ensures { SheetsHold }
-{
-    true
-}
+{}
 
 // The ports among them are valid.
-pub fn ports_stand() -> bool
+pub fn ports_stand()
     ensures { SheetsValid }
-{
-    true
-}
+{}
 
 // The pairs of ports have the ranks that their rows say.
-pub fn ranks_stand() -> bool
+pub fn ranks_stand()
     ensures { RanksHold }
-{
-    true
-}
+{}
 
 // Policies, costs and ranks are those of their ports: each cost is the least over all plans.
-pub fn policies_stand() -> bool
+pub fn policies_stand()
     ensures { PoliciesHold }
-{
-    true
-}
+{}
 
 // Locks that are worked by a policy go where their rows say, at the cost that was quoted or less.
-pub fn locks_stand() -> bool
+pub fn locks_stand()
     ensures { ErrandsHold }
-{
-    true
-}
+{}

@@ -15,120 +15,86 @@ ghost use Rattle.cases_histories.specs.Tables.{TablesSay};
 ghost use Rattle.cases_histories.specs.Worlds.{WorldsSay};
 
 // What is computed of a policy, its tables and its ranks.
-pub fn tables_stand() -> bool
+pub fn tables_stand()
     ensures { TablesSay }
-{
-    true
-}
+{}
 
 // What a policy and its ranks promise.
-pub fn policies_stand() -> bool
+pub fn policies_stand()
     ensures { PoliciesSay }
-{
-    true
-}
+{}
 
 // What a solve promises: its choices, and the buffers or the tables that it fills.
-pub fn solving_stand() -> bool
+pub fn solving_stand()
     ensures { SolvingSay }
-{
-    true
-}
+{}
 
 // What is computed of a call: the rules that refuse it.
-pub fn calls_stand() -> bool
+pub fn calls_stand()
     ensures { CallsSay }
-{
-    true
-}
+{}
 
 // What is computed of a history: its errands, and what is left of their costs.
-pub fn errands_stand() -> bool
+pub fn errands_stand()
     ensures { ErrandsSay }
-{
-    true
-}
+{}
 
 // Calls as they may be answered, and histories of them.
-pub fn histories_stand() -> bool
+pub fn histories_stand()
     ensures { HistoriesSay }
-{
-    true
-}
+{}
 
 // Quotes that are the least, and openings.
-pub fn promises_stand() -> bool
+pub fn promises_stand()
     ensures { PromisesSay }
-{
-    true
-}
+{}
 
 // A quote that is the least of plans that end inside a simulation, and not of all.
-pub fn brinks_stand() -> bool
+pub fn brinks_stand()
     ensures { BrinksSay }
-{
-    true
-}
+{}
 
 // Histories that have the promise, and for each part of it one that breaks it.
-pub fn lives_stand() -> bool
+pub fn lives_stand()
     ensures { LivesSay }
-{
-    true
-}
+{}
 
 // Where all histories have the promise.
-pub fn beginnings_stand() -> bool
+pub fn beginnings_stand()
     ensures { BeginningsSay }
-{
-    true
-}
+{}
 
 // The numbers of refusals, and where a controller is beside a lock.
-pub fn numbered_stand() -> bool
+pub fn numbered_stand()
     ensures { NumberedSay }
-{
-    true
-}
+{}
 
 // What each call's result is as an answer.
-pub fn answers_stand() -> bool
+pub fn answers_stand()
     ensures { AnswersSay }
-{
-    true
-}
+{}
 
 // What a controller decides and does.
-pub fn controls_stand() -> bool
+pub fn controls_stand()
     ensures { ControlsSay }
-{
-    true
-}
+{}
 
 // Ports in memory with a policy, and controllers on them.
-pub fn worlds_stand() -> bool
+pub fn worlds_stand()
     ensures { WorldsSay }
-{
-    true
-}
+{}
 
 // Calls one after another over a lock, and answers that stand for those of a history.
-pub fn courses_stand() -> bool
+pub fn courses_stand()
     ensures { CoursesSay }
-{
-    true
-}
+{}
 
 // What is printed where an outing has no log.
-pub fn errors_stand() -> bool
+pub fn errors_stand()
     ensures { ErrorsSay }
-{
-    true
-}
+{}
 
 // The logs of outings.
-pub fn logs_stand() -> bool
+pub fn logs_stand()
     ensures { LogsSay }
-{
-    true
-}
+{}

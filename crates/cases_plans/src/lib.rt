@@ -13,120 +13,86 @@ ghost use Rattle.cases_plans.specs.Sets.{ComputedSay, IterationsSay, SetsSay};
 ghost use Rattle.cases_plans.specs.Simulations.{SimulationsSay};
 
 // Moves, plans, runs, and what a plan attains.
-pub fn plans_stand() -> bool
+pub fn plans_stand()
     ensures { PlansSay }
-{
-    true
-}
+{}
 
 // Domains, what a pair serves, simulations, what is kept, and ranks.
-pub fn simulations_stand() -> bool
+pub fn simulations_stand()
     ensures { SimulationsSay }
-{
-    true
-}
+{}
 
 // The domain that a port tells.
-pub fn domains_stand() -> bool
+pub fn domains_stand()
     ensures { DomainsSay }
-{
-    true
-}
+{}
 
 // What is attainable, closed and stable.
-pub fn sets_stand() -> bool
+pub fn sets_stand()
     ensures { SetsSay }
-{
-    true
-}
+{}
 
 // The sets as they are computed.
-pub fn computed_stand() -> bool
+pub fn computed_stand()
     ensures { ComputedSay }
-{
-    true
-}
+{}
 
 // Which sets iterate.
-pub fn iterations_stand() -> bool
+pub fn iterations_stand()
     ensures { IterationsSay }
-{
-    true
-}
+{}
 
 // What is read from lists of flags, numbers and tasks.
-pub fn readings_stand() -> bool
+pub fn readings_stand()
     ensures { ReadingsSay }
-{
-    true
-}
+{}
 
 // Cost models that are lawful, and for each law one that breaks it.
-pub fn lawful_stand() -> bool
+pub fn lawful_stand()
     ensures { LawfulSay }
-{
-    true
-}
+{}
 
 // The same for the weak laws.
-pub fn weak_stand() -> bool
+pub fn weak_stand()
     ensures { WeakSay }
-{
-    true
-}
+{}
 
 // Costs, their order, and moves of few minutes.
-pub fn costs_stand() -> bool
+pub fn costs_stand()
     ensures { CostsSay }
-{
-    true
-}
+{}
 
 // What runs cost.
-pub fn runs_stand() -> bool
+pub fn runs_stand()
     ensures { RunsSay }
-{
-    true
-}
+{}
 
 // What some run of few moves costs.
-pub fn prices_stand() -> bool
+pub fn prices_stand()
     ensures { PricesSay }
-{
-    true
-}
+{}
 
 // The two models.
-pub fn models_stand() -> bool
+pub fn models_stand()
     ensures { ModelsSay }
-{
-    true
-}
+{}
 
 // The order of two columns.
-pub fn orders_stand() -> bool
+pub fn orders_stand()
     ensures { OrdersSay }
-{
-    true
-}
+{}
 
 // Costs compared.
-pub fn compare_stand() -> bool
+pub fn compare_stand()
     ensures { CompareSay }
-{
-    true
-}
+{}
 
 // What is looked up in a port.
-pub fn lookups_stand() -> bool
+pub fn lookups_stand()
     ensures { LookupsSay }
-{
-    true
-}
+{}
 
 // What a lock tells and does.
-pub fn locks_stand() -> bool
+pub fn locks_stand()
     ensures { LocksSay }
-{
-    true
-}
+{}

@@ -12,85 +12,61 @@ ghost use Rattle.cases_search.specs.Tasks.{TasksComputedSay, TasksSay};
 ghost use Rattle.cases_search.specs.Verdicts.{VerdictsSay};
 
 // What plans cost, and what the search answers.
-pub fn answers_stand() -> bool
+pub fn answers_stand()
     ensures { AnswersSay }
-{
-    true
-}
+{}
 
 // What a verdict of the rounds tells.
-pub fn verdicts_stand() -> bool
+pub fn verdicts_stand()
     ensures { VerdictsSay }
-{
-    true
-}
+{}
 
 // What is computed of moves and tables.
-pub fn computed_stand() -> bool
+pub fn computed_stand()
     ensures { ComputedSay }
-{
-    true
-}
+{}
 
 // The index of moves, and tables of costs.
-pub fn indexes_stand() -> bool
+pub fn indexes_stand()
     ensures { IndexesSay }
-{
-    true
-}
+{}
 
 // What the search keeps, and what groups of moves come to.
-pub fn labels_stand() -> bool
+pub fn labels_stand()
     ensures { LabelsSay }
-{
-    true
-}
+{}
 
 // How many conditions have a cost.
-pub fn counts_stand() -> bool
+pub fn counts_stand()
     ensures { CountsSay }
-{
-    true
-}
+{}
 
 // What is computed of rows of flags and of choices.
-pub fn tasks_computed_stand() -> bool
+pub fn tasks_computed_stand()
     ensures { TasksComputedSay }
-{
-    true
-}
+{}
 
 // What a task of the rounds holds.
-pub fn tasks_stand() -> bool
+pub fn tasks_stand()
     ensures { TasksSay }
-{
-    true
-}
+{}
 
 // What conditions cost at first.
-pub fn starts_stand() -> bool
+pub fn starts_stand()
     ensures { StartsSay }
-{
-    true
-}
+{}
 
 // What the steps of the search do.
-pub fn steps_stand() -> bool
+pub fn steps_stand()
     ensures { StepsSay }
-{
-    true
-}
+{}
 
 // What each plan costs at least.
-pub fn least_stand() -> bool
+pub fn least_stand()
     ensures { LeastSay }
-{
-    true
-}
+{}
 
 // Tables whose costs are those of runs of few moves.
-pub fn few_stand() -> bool
+pub fn few_stand()
     ensures { FewSay }
-{
-    true
-}
+{}

@@ -8,120 +8,86 @@ ghost use Rattle.cases_sheets.specs.Readers.{Counts, ItselfShown, ReadsHold, Ste
 ghost use Rattle.cases_sheets.specs.Records.{AdmissionsShown, AdmitsAsRead, DecodingsHold, EntriesShown, HeadsShown, KindsShown, RequestsShown};
 
 // The answer that tells what is read.
-pub fn tells_stand() -> bool
+pub fn tells_stand()
     ensures { TellsHold }
-{
-    true
-}
+{}
 
 // What a load leaves.
-pub fn loaded_stand() -> bool
+pub fn loaded_stand()
     ensures { LoadsHold }
-{
-    true
-}
+{}
 
 // The port that is held after a load.
-pub fn holds_stand() -> bool
+pub fn holds_stand()
     ensures { HoldingsHold }
-{
-    true
-}
+{}
 
 // The bytes of kinds.
-pub fn kinds_stand() -> bool
+pub fn kinds_stand()
     ensures { KindsShown }
-{
-    true
-}
+{}
 
 // The kind that a byte stands for.
-pub fn decodes_stand() -> bool
+pub fn decodes_stand()
     ensures { DecodingsHold }
-{
-    true
-}
+{}
 
 // What is judged of a kind byte.
-pub fn admissions_stand() -> bool
+pub fn admissions_stand()
     ensures { AdmissionsShown }
-{
-    true
-}
+{}
 
 // How a record begins.
-pub fn heads_stand() -> bool
+pub fn heads_stand()
     ensures { HeadsShown }
-{
-    true
-}
+{}
 
 // Requests whose texts are still in the sheet.
-pub fn requests_stand() -> bool
+pub fn requests_stand()
     ensures { RequestsShown }
-{
-    true
-}
+{}
 
 // What records say.
-pub fn entries_stand() -> bool
+pub fn entries_stand()
     ensures { EntriesShown }
-{
-    true
-}
+{}
 
 // Steps of a reader, and bytes from 1 to a limit.
-pub fn steps_stand() -> bool
+pub fn steps_stand()
     ensures { StepsShown }
-{
-    true
-}
+{}
 
 // Values that stand for themselves.
-pub fn itself_stands() -> bool
+pub fn itself_stands()
     ensures { ItselfShown }
-{
-    true
-}
+{}
 
 // What is told of a reader's step.
-pub fn reads_stand() -> bool
+pub fn reads_stand()
     ensures { ReadsHold }
-{
-    true
-}
+{}
 
 // What a draft says.
-pub fn drafts_stand() -> bool
+pub fn drafts_stand()
     ensures { DraftsShown }
-{
-    true
-}
+{}
 
 // A sheet has one answer, but for want of memory.
-pub fn one_answer_stands() -> bool
+pub fn one_answer_stands()
     ensures { OneAnswer }
-{
-    true
-}
+{}
 
 // A kind byte is judged as the reading judges it.
-pub fn admits_stands() -> bool
+pub fn admits_stands()
     ensures { AdmitsAsRead }
-{
-    true
-}
+{}
 
 // Counts and lengths are bytes from 1 to a limit.
-pub fn counts_stand() -> bool
+pub fn counts_stand()
     ensures { Counts }
-{
-    true
-}
+{}
 
 // A load without a value leaves the same port in memory.
-pub fn as_it_was_stands() -> bool
+pub fn as_it_was_stands()
     ensures { AsItWas }
-{
-    true
-}
+{}

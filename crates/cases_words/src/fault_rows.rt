@@ -2,29 +2,21 @@
 ghost use Rattle.cases_words.specs.Faults.{FaultLayersShown, FaultLinesShown, FaultNumbersShown, FaultPlacesShown};
 
 // The numbers of faults.
-pub fn fault_numbers_stand() -> bool
+pub fn fault_numbers_stand()
     ensures { FaultNumbersShown }
-{
-    true
-}
+{}
 
 // The places of faults.
-pub fn fault_places_stand() -> bool
+pub fn fault_places_stand()
     ensures { FaultPlacesShown }
-{
-    true
-}
+{}
 
 // The layers of faults.
-pub fn fault_layers_stand() -> bool
+pub fn fault_layers_stand()
     ensures { FaultLayersShown }
-{
-    true
-}
+{}
 
 // What errors are printed as.
-pub fn fault_lines_stand() -> bool
+pub fn fault_lines_stand()
     ensures { FaultLinesShown }
-{
-    true
-}
+{}

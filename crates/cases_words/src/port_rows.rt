@@ -5,92 +5,66 @@ ghost use Rattle.cases_words.specs.Ports.{LargeHold, PortsHold};
 ghost use Rattle.cases_words.specs.Requests.{RequestsHold};
 
 // Members of lists.
-pub fn members_stand() -> bool
+pub fn members_stand()
     ensures { MembersHold }
-{
-    true
-}
+{}
 
 // The move at a place.
-pub fn moves_at_stand() -> bool
+pub fn moves_at_stand()
     ensures { MovesAtShown }
-{
-    true
-}
+{}
 
 // The order of moves, as a number.
-pub fn keys_stand() -> bool
+pub fn keys_stand()
     ensures { KeysShown }
-{
-    true
-}
+{}
 
 // Conditions of so many marks.
-pub fn marked_stand() -> bool
+pub fn marked_stand()
     ensures { MarkedHold }
-{
-    true
-}
+{}
 
 // Conditions that rise, and that do not.
-pub fn rising_stand() -> bool
+pub fn rising_stand()
     ensures { RisingHold }
-{
-    true
-}
+{}
 
 // Moves of which all that they name exists.
-pub fn existing_stand() -> bool
+pub fn existing_stand()
     ensures { ExistingHold }
-{
-    true
-}
+{}
 
 // Moves that rise.
-pub fn rising_moves_stand() -> bool
+pub fn rising_moves_stand()
     ensures { RisingMovesHold }
-{
-    true
-}
+{}
 
 // Texts that a request may have.
-pub fn texts_stand() -> bool
+pub fn texts_stand()
     ensures { TextsHold }
-{
-    true
-}
+{}
 
 // Valid ports, and ports that break a limit.
-pub fn ports_stand() -> bool
+pub fn ports_stand()
     ensures { PortsHold }
-{
-    true
-}
+{}
 
 // As many moves as there may be, and one more.
-pub fn large_stand() -> bool
+pub fn large_stand()
     ensures { LargeHold }
-{
-    true
-}
+{}
 
 // Requests as they are held in memory.
-pub fn requests_stand() -> bool
+pub fn requests_stand()
     ensures { RequestsHold }
-{
-    true
-}
+{}
 
 // Ports as they are held in memory, and ports that cannot be.
-pub fn held_stand() -> bool
+pub fn held_stand()
     ensures { HeldHold }
-{
-    true
-}
+{}
 
 // The limits of a port in memory are those of a valid one.
-pub fn limits_stand() -> bool
+pub fn limits_stand()
     ensures { SameLimits }
-{
-    true
-}
+{}

@@ -4,141 +4,101 @@ ghost use Rattle.cases_words.specs.Records.{BeginsShown, ConditionsShown, Entrie
 ghost use Rattle.cases_words.specs.Sheets.{BytesHold, JudgementsHold, MapBitsShown, Needed, OnliesHold, ReadsShown, WrittenShown};
 
 // Numbers that are read from a sheet, and where they are at fault.
-pub fn numbers_stand() -> bool
+pub fn numbers_stand()
     ensures { NumbersShown }
-{
-    true
-}
+{}
 
 // Bytes and texts that are read from a sheet.
-pub fn field_texts_stand() -> bool
+pub fn field_texts_stand()
     ensures { FieldTextsShown }
-{
-    true
-}
+{}
 
 // Headers of sheets.
-pub fn headings_stand() -> bool
+pub fn headings_stand()
     ensures { HeadingsShown }
-{
-    true
-}
+{}
 
 // Tests that the reading makes.
-pub fn tests_stand() -> bool
+pub fn tests_stand()
     ensures { TestsShown }
-{
-    true
-}
+{}
 
 // The limits that the reading takes from the number of marks and from a kind.
-pub fn amounts_stand() -> bool
+pub fn amounts_stand()
     ensures { AmountsShown }
-{
-    true
-}
+{}
 
 // The text of an absent one, and what begins a sheet.
-pub fn constants_stand() -> bool
+pub fn constants_stand()
     ensures { ConstantsShown }
-{
-    true
-}
+{}
 
 // Records of conditions.
-pub fn read_conditions_stand() -> bool
+pub fn read_conditions_stand()
     ensures { ConditionsShown }
-{
-    true
-}
+{}
 
 // Records of moves.
-pub fn read_moves_stand() -> bool
+pub fn read_moves_stand()
     ensures { MovesShown }
-{
-    true
-}
+{}
 
 // Records of requests.
-pub fn read_requests_stand() -> bool
+pub fn read_requests_stand()
     ensures { RequestsShown }
-{
-    true
-}
+{}
 
 // Which kind of record may come next, and for which there is room.
-pub fn record_tests_stand() -> bool
+pub fn record_tests_stand()
     ensures { RecordTestsShown }
-{
-    true
-}
+{}
 
 // How records begin.
-pub fn begins_stand() -> bool
+pub fn begins_stand()
     ensures { BeginsShown }
-{
-    true
-}
+{}
 
 // Whole records.
-pub fn entries_stand() -> bool
+pub fn entries_stand()
     ensures { EntriesShown }
-{
-    true
-}
+{}
 
 // A port with one record more.
-pub fn grown_stand() -> bool
+pub fn grown_stand()
     ensures { GrownShown }
-{
-    true
-}
+{}
 
 // The bytes of ports and of their parts.
-pub fn written_stand() -> bool
+pub fn written_stand()
     ensures { WrittenShown }
-{
-    true
-}
+{}
 
 // The bits of a map byte.
-pub fn map_bits_stand() -> bool
+pub fn map_bits_stand()
     ensures { MapBitsShown }
-{
-    true
-}
+{}
 
 // Lists of bytes.
-pub fn bytes_stand() -> bool
+pub fn bytes_stand()
     ensures { BytesHold }
-{
-    true
-}
+{}
 
 // Sheets that are read, and where they are refused.
-pub fn reads_stand() -> bool
+pub fn reads_stand()
     ensures { ReadsShown }
-{
-    true
-}
+{}
 
 // The only sheet of a port.
-pub fn onlies_stand() -> bool
+pub fn onlies_stand()
     ensures { OnliesHold }
-{
-    true
-}
+{}
 
 // What a reading may say of a text.
-pub fn judgements_stand() -> bool
+pub fn judgements_stand()
     ensures { JudgementsHold }
-{
-    true
-}
+{}
 
 // The premises of the theorems on sheets are needed.
-pub fn premises_stand() -> bool
+pub fn premises_stand()
     ensures { Needed }
-{
-    true
-}
+{}

@@ -47,8 +47,6 @@ pub(crate) fn marks_of(port: &Port, condition: u8) -> u16
 }
 
 // What `condition_of` and `is_possible` look up is what is meant: the theorem is the contract.
-pub fn lookups_stand() -> bool
+pub fn lookups_stand()
     ensures { (M : Model) → Lookups M }
-{
-    true
-}
+{}

@@ -5,22 +5,16 @@
 ghost use Rattle.reading.specs.Theorems.{Grammatical, Taken, Written};
 
 // A sheet that is taken is the one sheet of a valid port.
-pub fn taken_stands() -> bool
+pub fn taken_stands()
     ensures { Taken }
-{
-    true
-}
+{}
 
 // The sheet of a valid port is taken.
-pub fn written_stands() -> bool
+pub fn written_stands()
     ensures { Written }
-{
-    true
-}
+{}
 
 // A text is judged as the grammar of formulas does.
-pub fn grammatical_stands() -> bool
+pub fn grammatical_stands()
     ensures { Grammatical }
-{
-    true
-}
+{}
