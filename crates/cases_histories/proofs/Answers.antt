@@ -4,8 +4,8 @@ use mathlib.Core.Bool.{false≢true}
 use Rattle.control.specs.declared.answer.Reply.TheVariants.{Quoted, Granted, Worked, Closed}
 use Rattle.control.specs.Numbers.{refusal_number}
 use Rattle.control.specs.States.{Answer}
+use Rattle.cases_plans.proofs.Rows.{◌⨾◌, each_says}
 use Rattle.cases_histories.specs.Answers.{Same, rows, AnswersSay}
-use Rattle.cases_histories.proofs.Rows.{◌⨾◌, each_says}
 use Rattle.cases_histories.proofs.Tests.{same_numbers, numbers_tell}
 
 -- what an answer is made of

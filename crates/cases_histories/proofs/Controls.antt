@@ -4,10 +4,11 @@ use Rattle.std.specs.Fmt.{digits}
 use Rattle.plans.specs.Flags.{task_at}
 use Rattle.plans.specs.Reach.{each}
 use Rattle.histories.specs.Calls.{cost_at}
+use Rattle.cases_plans.proofs.Rows.{right, all_say}
+use Rattle.cases_plans.proofs.Tests.{equal}
 use Rattle.cases_histories.specs.Sluice.{w}
 use Rattle.cases_histories.specs.Controls.{marks, numbered, NumberedSay, Claim, spot, spotted, found, priced, next, target, ruled, balks, does, shows, did, Means, rows, ControlsSay}
-use Rattle.cases_histories.proofs.Rows.{right, all_say}
-use Rattle.cases_histories.proofs.Tests.{equal, same_numbers, numbers_tell}
+use Rattle.cases_histories.proofs.Tests.{same_numbers, numbers_tell}
 use Rattle.cases_histories.proofs.Values.{told, values_say}
 use Rattle.cases_histories.proofs.Decisions.{spot_test, spot_decided, spotted_test, spotted_decided, found_test, found_decided, next_test, next_decided, ruled_test, ruled_decided, balks_test, balks_decided, does_test, does_decided, shows_test, shows_decided, did_test, did_decided}
 

@@ -22,10 +22,11 @@ use Rattle.control.specs.Numbers.{refusal_number}
 use Rattle.control.specs.Rulings.{Spot, spot_rules, Spotted, Found, Next}
 use Rattle.control.specs.States.{Answer, State, state, at_of, Ruled, Balks, Does, Shows, Did}
 use Rattle.port.specs.Limits.{no_move}
+use Rattle.cases_plans.proofs.Tests.{both, equal, below, same_move, same_moves}
+use Rattle.cases_plans.proofs.Worked.{worked_test, worked_decided}
 use Rattle.cases_histories.specs.Sluice.{as_given}
-use Rattle.cases_histories.proofs.Tests.{both, equal, below, same_numbers, numbers_tell, same_place, places_tell, same_move, moves_tell}
+use Rattle.cases_histories.proofs.Tests.{same_numbers, numbers_tell, same_place, places_tell}
 use Rattle.cases_histories.proofs.Takes.{quoting, quoting_iff, asking, asking_iff, stepping, stepping_iff, closing, closing_iff, first_test, first_decided, took_test, took_decided, three, sort}
-use Rattle.cases_histories.proofs.Worked.{worked_test, worked_decided}
 
 -- one of two tests passes
 pub one_of : {P Q : Type 0} (a b : Bool) → (a ≡ true) ↔ P → (b ≡ true) ↔ Q → ((a || b) ≡ true) ↔ (P ⊎ Q)
@@ -331,7 +332,7 @@ told_is a b p q r s =
 
 pub tolds_tell : (a b : Told) → (same_told a b ≡ true) ↔ (a ≡ b)
 tolds_tell a b =
-    let last = both (same_move (move_of a) (move_of b)) (eqb (number_of a) (number_of b)) (moves_tell (move_of a) (move_of b)) (equal (number_of a) (number_of b)) in
+    let last = both (same_move (move_of a) (move_of b)) (eqb (number_of a) (number_of b)) (same_moves (move_of a) (move_of b)) (equal (number_of a) (number_of b)) in
     let parts =
     three (eqb (sort a) (sort b)) (same_numbers (cost_of a) (cost_of b)) (same_move (move_of a) (move_of b) && eqb (number_of a) (number_of b))
     (equal (sort a) (sort b)) (numbers_tell (cost_of a) (cost_of b)) last in (

@@ -1,8 +1,8 @@
 -- The rows of histories, by one test.
 use Rattle.std.proofs.Common.{◌≡◌, Bool, true, None, ◌↔◌, refl}
 use Rattle.plans.specs.Reach.{each}
+use Rattle.cases_plans.proofs.Rows.{right, all_say}
 use Rattle.cases_histories.specs.Histories.{Claim, passes, took, history, opens, tells, Means, rows, HistoriesSay}
-use Rattle.cases_histories.proofs.Rows.{right, all_say}
 use Rattle.cases_histories.proofs.Takes.{first_test, first_decided, took_test, took_decided, history_test, history_decided, opens_test, opens_decided, tells_test, tells_decided}
 
 abbrev test : Claim → Bool

@@ -1,4 +1,3 @@
-pub mod Rows
 pub mod Tests
 pub mod Values
 pub mod Tables
@@ -11,7 +10,6 @@ pub mod Takes
 pub mod Histories
 pub mod Solving
 pub mod Promises
-pub mod Worked
 pub mod Decisions
 pub mod Controls
 pub mod Answers

@@ -22,16 +22,16 @@ use Rattle.control.specs.declared.answer.Reply.TheVariants.{Quoted, Granted}
 use Rattle.control.specs.declared.refusal.Refusal.TheVariants.{NotOffered}
 use Rattle.control.specs.States.{Answer, State, state, Does, Shows}
 use Rattle.control.specs.Outings.{Turn, Course, Logged, ShowsAll, Outed, Ready, Told}
+use Rattle.cases_plans.proofs.Rows.{right, all_say, ◌⨾◌, each_says}
+use Rattle.cases_plans.proofs.Tests.{both}
+use Rattle.cases_plans.proofs.Kept.{formed_decided, pairwise_iff, rank_test, rank_decided}
 use Rattle.cases_histories.specs.Sluice.{two, nought, w, as_given, port}
 use Rattle.cases_histories.specs.Calls.{at}
 use Rattle.cases_histories.specs.Errands.{event, leaving}
 use Rattle.cases_histories.specs.Controls.{marks}
 use Rattle.cases_histories.specs.Outings.{turn, Claim, course, shows_all, Means, answers, rows, CoursesSay, errors, ErrorsSay, alone, Tells, logs, LogsSay}
-use Rattle.cases_histories.proofs.Rows.{right, all_say, ◌⨾◌, each_says}
 use Rattle.cases_histories.proofs.Values as values
-use Rattle.cases_histories.proofs.Tests.{both}
 use Rattle.cases_histories.proofs.Takes.{three, took_decided, history_decided}
-use Rattle.cases_histories.proofs.Plans.{formed_well, pairwise_iff, rank_test, rank_decided}
 use Rattle.cases_histories.proofs.Promises.{from_start}
 use Rattle.cases_histories.proofs.Decisions.{same_state, states_tell, does_test, does_decided, shows_test, shows_decided}
 
@@ -167,7 +167,7 @@ abbrev D : Domain
 D = domain_of first
 
 formed : WellFormed D
-formed = formed_well D refl
+formed = (formed_decided D).0 refl
 
 ranked : (s c : ℕ) → InRange D s c → Rank D s c (rank_at 1 (0 ∷ []) s c)
 ranked s c r =

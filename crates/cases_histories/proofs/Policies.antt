@@ -12,11 +12,13 @@ use Rattle.solver.specs.declared.Entry.{Entry}
 use Rattle.solver.specs.declared.Entry.TheVariants.{None, There, Work}
 use Rattle.solver.specs.Policy.{World, Best, Right, Solved}
 use Rattle.solver.proofs.KeptSets.{kept_largest, kept_simulates}
+use Rattle.cases_plans.proofs.Rows.{right as row_right, all_say}
+use Rattle.cases_plans.proofs.Tests.{both}
+use Rattle.cases_plans.proofs.Kept.{pairwise, pairwise_iff, rank_test, rank_decided}
 use Rattle.cases_histories.specs.Sluice.{sluice, with_tables, w}
 use Rattle.cases_histories.specs.Policies.{Claim, safe, price, begins, best, right, solved, Means, rows, PoliciesSay}
-use Rattle.cases_histories.proofs.Rows.{right as row_right, all_say}
-use Rattle.cases_histories.proofs.Tests.{both, same_numbers, numbers_tell, same_entry, entries_tell}
-use Rattle.cases_histories.proofs.Plans.{pairwise, pairwise_iff, rank_test, rank_decided, safe_test, safe_decided, price_test, price_decided}
+use Rattle.cases_histories.proofs.Tests.{same_numbers, numbers_tell, same_entry, entries_tell}
+use Rattle.cases_histories.proofs.Plans.{safe_test, safe_decided, price_test, price_decided}
 use Rattle.cases_histories.proofs.Rights.{right_one, formed, begins_test, begins_decided, own_right}
 
 -- the entry and the cost are the sluice's own

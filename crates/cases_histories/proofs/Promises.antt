@@ -23,13 +23,15 @@ use Rattle.histories.specs.Promise.{Inside, LeastInSimulations, Promise, Promise
 use Rattle.histories.proofs.Basics.{some_inj, some_none}
 use Rattle.histories.proofs.Holds.{promise_holds}
 use Rattle.histories.proofs.Policy.{inside_safe, quote_least, safe_entry}
+use Rattle.cases_plans.proofs.Rows.{alike, right, all_say, ◌⨾◌, each_says}
+use Rattle.cases_plans.proofs.Tests.{both, attains_test, attains_decided}
+use Rattle.cases_plans.proofs.Kept.{kept_test, kept_decided, formed_decided}
 use Rattle.cases_histories.specs.Sluice.{lift, flood, two, nought, sluice, entries, costs, ranks, with_tables, w, working}
 use Rattle.cases_histories.specs.Calls.{at}
 use Rattle.cases_histories.specs.Errands.{errand, event, leaving}
 use Rattle.cases_histories.specs.Promises.{Claim, inside, least, opening, Means, rows, PromisesSay, brink, edge, IsLeast, brinks, BrinksSay, IsPromise, low, high, idle, lives, LivesSay, beginnings, BeginningsSay}
-use Rattle.cases_histories.proofs.Rows.{alike, right, all_say, ◌⨾◌, each_says}
-use Rattle.cases_histories.proofs.Tests.{both, same_numbers, numbers_tell, same_place, places_tell, same_entry, entries_tell}
-use Rattle.cases_histories.proofs.Plans.{each_run, each_run_iff, attains_test, attains_decided, inside_test, kept_test, kept_decided, formed_well, price_decided, safe_decided}
+use Rattle.cases_histories.proofs.Tests.{same_numbers, numbers_tell, same_place, places_tell, same_entry, entries_tell}
+use Rattle.cases_histories.proofs.Plans.{each_run, each_run_iff, inside_test, price_decided, safe_decided}
 use Rattle.cases_histories.proofs.Rights.{one_price, priced_sized, formed, joined}
 use Rattle.cases_histories.proofs.Policies.{solved_decided}
 use Rattle.cases_histories.proofs.Takes.{took_decided, history_decided, opens_test, opens_decided, unlike}
@@ -88,7 +90,7 @@ least_decided q c l m f = (
 -- ── the brink ──
 
 brink_formed : WellFormed brink
-brink_formed = formed_well brink refl
+brink_formed = (formed_decided brink).0 refl
 
 -- at its ends nothing is possible
 brink_idle : (m : Move) → In m brink.moves → (o : ℕ) → possible brink.moves m.outcome o ≡ false

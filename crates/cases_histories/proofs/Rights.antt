@@ -16,8 +16,9 @@ use Rattle.search.proofs.Runs.{has_cost}
 use Rattle.solver.specs.declared.Entry.{Entry}
 use Rattle.solver.specs.declared.Entry.TheVariants.{None, There, Work}
 use Rattle.solver.specs.Policy.{World, Safe, Price, Begins, Best, Right}
+use Rattle.cases_plans.proofs.Kept.{formed_decided}
 use Rattle.cases_histories.specs.Sluice.{moves, sluice, two, w, working}
-use Rattle.cases_histories.proofs.Plans.{formed_well, safe_test, safe_decided, price_test, price_decided}
+use Rattle.cases_histories.proofs.Plans.{safe_test, safe_decided, price_test, price_decided}
 
 -- ── there is one ──
 
@@ -64,7 +65,7 @@ module _ (v : World) (laws : Laws v.model) where
 -- ── plans over the sluice ──
 
 pub formed : WellFormed sluice
-formed = formed_well sluice refl
+formed = (formed_decided sluice).0 refl
 
 -- after any move nothing is possible
 ends_idle : (m : Move) → In m moves → (o : ℕ) → possible moves m.outcome o ≡ false

@@ -21,12 +21,14 @@ use Rattle.solver.specs.Choices.{entry_of, exact_of, ChosenRow, Chosen}
 use Rattle.solver.specs.Policy.{Safe, Right, Solved}
 use Rattle.solver.specs.Solving.{Worked, Filled, Tabled, Untouched, Outcome, zeros, largest_of, enough}
 use Rattle.solver.proofs.Policies.{attains_safe, safe_attains, answer_right}
+use Rattle.cases_plans.proofs.Rows.{alike, right, all_say}
+use Rattle.cases_plans.proofs.Tests.{both, equal}
+use Rattle.cases_plans.proofs.Values.{alike_iff, same_list, list_tells}
+use Rattle.cases_plans.proofs.Kept.{kept_test, kept_decided}
 use Rattle.cases_histories.specs.Sluice.{sluice, as_given, with_tables, w}
 use Rattle.cases_histories.specs.Solving.{Buffers, Claim, chosen_row, chosen, worked, filled, untouched, outcome, tabled, choice_at, Means, rows, SolvingSay}
-use Rattle.cases_histories.proofs.Rows.{alike, right, all_say}
-use Rattle.cases_histories.proofs.Tests.{both, equal, alike_iff, same_list, list_tells, same_numbers, numbers_tell, same_entry, entries_tell}
+use Rattle.cases_histories.proofs.Tests.{same_numbers, numbers_tell, same_entry, entries_tell}
 use Rattle.cases_histories.proofs.Takes.{three}
-use Rattle.cases_histories.proofs.Plans.{kept_test, kept_decided}
 use Rattle.cases_histories.proofs.Rights.{formed}
 use Rattle.cases_histories.proofs.Policies.{right_test, right_decided, ranks_test, ranks_decided, solved_test, solved_decided}
 

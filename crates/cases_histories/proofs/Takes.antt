@@ -12,7 +12,8 @@ use Rattle.histories.specs.Calls.{At, Answer, quoted, granted, worked, closed, r
 use Rattle.histories.specs.Errands.{request_of}
 use Rattle.histories.specs.Promise.{Tells}
 use Rattle.histories.proofs.Basics.{some_inj}
-use Rattle.cases_histories.proofs.Tests.{both, equal, same_numbers, numbers_tell, same_place, places_tell, same_entry, entries_tell, can_test, can_decided, same_at, ats_tell}
+use Rattle.cases_plans.proofs.Tests.{both, equal, can_test, can_decided}
+use Rattle.cases_histories.proofs.Tests.{same_numbers, numbers_tell, same_place, places_tell, same_entry, entries_tell, same_at, ats_tell}
 
 -- ── what a command asks ──
 

@@ -1,74 +1,19 @@
 -- Tests that tell whether two values are the same, and tests of moves.
-use Rattle.std.proofs.Common.{◌≡◌, ℕ, ◌<◌, Bool, true, false, not, ◌&&◌, ◌||◌, eqb, ltb, ◌↔◌, List, [], ◌∷◌, Some, None, Option, sym, refl, ap, ap₂, ◌∙◌, subst, eq-eqb, eqb-true, lt-ltb, ltb-true, arith}
+use Rattle.std.proofs.Common.{◌≡◌, ℕ, Bool, true, false, ◌&&◌, eqb, ◌↔◌, List, Option, sym, refl, ap, ◌∙◌, eq-eqb, eqb-true}
 use mathlib.Core.Bool.{and-eq-true_iff, false≢true}
-use Rattle.port.specs.Limits.{In}
 use Rattle.port.specs.declared.Move.{Move}
 use Rattle.plans.specs.Plans.{Can}
-use Rattle.plans.specs.Reach.{some, each}
-use Rattle.plans.proofs.Decide.{some_in, in_some, each_in, in_each, implies}
+use Rattle.plans.specs.Reach.{some}
+use Rattle.plans.proofs.Decide.{some_in, in_some}
 use Rattle.locks.specs.Places.{fits}
 use Rattle.locks.proofs.Standing.{fits_true, fits_parts}
 use Rattle.solver.specs.declared.Entry.{Entry}
 use Rattle.solver.specs.declared.Entry.TheVariants.{None as NoEntry, There, Work}
 use Rattle.histories.specs.Calls.{At, Rule}
 use Rattle.histories.specs.Errands.{Errand}
-use Rattle.cases_histories.proofs.Rows.{alike}
-
-pub both : {P Q : Type 0} (a b : Bool) → (a ≡ true) ↔ P → (b ≡ true) ↔ Q → ((a && b) ≡ true) ↔ (P × Q)
-both a b p q = (
-  λ e. let h = (and-eq-true_iff a b).0 e in (p.0 h.0, q.0 h.1),
-  λ t. (and-eq-true_iff a b).1 (p.1 t.0, q.1 t.1),
-)
-
-pub equal : (a b : ℕ) → (eqb a b ≡ true) ↔ (a ≡ b)
-equal a b = (eqb-true a b, eq-eqb a b)
-
-pub below : (a b : ℕ) → (ltb a b ≡ true) ↔ (a < b)
-below a b = (ltb-true a b, lt-ltb a b)
-
-pub alike_iff : (a b : Bool) → (alike a b ≡ true) ↔ (a ≡ b)
-alike_iff true true = (λ e. refl, λ q. refl)
-alike_iff true false = (λ e. absurd (false≢true e), λ q. sym q)
-alike_iff false true = (λ e. absurd (false≢true e), λ q. absurd (false≢true q))
-alike_iff false false = (λ e. refl, λ q. refl)
-
--- what cannot be
-pub no_way : {P : Type 0} → ◌≡◌ {A = ℕ} 0 1 → P
-no_way e = absurd (omega arith)
-
--- a test tells whether two things are the same
-abbrev pub Tells : {A : Type 0} → (A → A → Bool) → Type 0
-Tells {A} same = (a b : A) → (same a b ≡ true) ↔ (a ≡ b)
-
-abbrev pub same_list : {A : Type 0} → (A → A → Bool) → List A → List A → Bool
-same_list same [] [] = true
-same_list same [] (y ∷ ys) = false
-same_list same (x ∷ xs) [] = false
-same_list same (x ∷ xs) (y ∷ ys) = same x y && same_list same xs ys
-
-pub list_tells : {A : Type 0} (same : A → A → Bool) → Tells same → Tells (same_list same)
-list_tells same tells [] [] = (λ e. refl, λ q. refl)
-list_tells same tells [] (y ∷ ys) = (λ e. absurd (false≢true e), λ q. let z : ◌≡◌ {A = ℕ} 0 1 = cc in absurd (omega arith))
-list_tells same tells (x ∷ xs) [] = (λ e. absurd (false≢true e), λ q. let z : ◌≡◌ {A = ℕ} 0 1 = cc in absurd (omega arith))
-list_tells same tells (x ∷ xs) (y ∷ ys) = (
-  λ e. let h = (and-eq-true_iff (same x y) (same_list same xs ys)).0 e in ap₂ ◌∷◌ ((tells x y).0 h.0) ((list_tells same tells xs ys).0 h.1),
-  λ q.
-      let head : x ≡ y = cc in
-      let tail : xs ≡ ys = cc in
-      (and-eq-true_iff (same x y) (same_list same xs ys)).1 ((tells x y).1 head, (list_tells same tells xs ys).1 tail),
-)
-
-abbrev pub same_option : {A : Type 0} → (A → A → Bool) → Option A → Option A → Bool
-same_option same None None = true
-same_option same None (Some b) = false
-same_option same (Some a) None = false
-same_option same (Some a) (Some b) = same a b
-
-pub option_tells : {A : Type 0} (same : A → A → Bool) → Tells same → Tells (same_option same)
-option_tells same tells None None = (λ e. refl, λ q. refl)
-option_tells same tells None (Some b) = (λ e. absurd (false≢true e), λ q. let z : ◌≡◌ {A = ℕ} 0 1 = cc in absurd (omega arith))
-option_tells same tells (Some a) None = (λ e. absurd (false≢true e), λ q. let z : ◌≡◌ {A = ℕ} 0 1 = cc in absurd (omega arith))
-option_tells same tells (Some a) (Some b) = (λ e. ap Some ((tells a b).0 e), λ q. let h : a ≡ b = cc in (tells a b).1 h)
+use Rattle.cases_plans.proofs.Rows.{alike}
+use Rattle.cases_plans.proofs.Tests.{both, equal, same_move, same_moves}
+use Rattle.cases_plans.proofs.Values.{alike_iff, Tells, same_list, list_tells, same_option, option_tells}
 
 abbrev pub same_numbers : List ℕ → List ℕ → Bool
 same_numbers a b = same_list eqb a b
@@ -115,64 +60,6 @@ entries_tell (Work o) There = (λ e. absurd (false≢true e), λ q. other_kind (
 entries_tell (Work o) (Work p) = (λ e. ap Work (eqb-true o p e), λ q. eq-eqb o p (ap operation_of q))
 
 -- ── moves ──
-
-abbrev pub same_move : Move → Move → Bool
-same_move a b = eqb a.condition b.condition && (eqb a.operation b.operation && (eqb a.outcome b.outcome && eqb a.minutes b.minutes))
-
-move_is : (a b : Move) → a.condition ≡ b.condition → a.operation ≡ b.operation → a.outcome ≡ b.outcome → a.minutes ≡ b.minutes → a ≡ b
-move_is a b p q r s =
-    ap (λ n. made n a.operation a.outcome a.minutes) p
-    ∙ ap (λ n. made b.condition n a.outcome a.minutes) q
-    ∙ ap (λ n. made b.condition b.operation n a.minutes) r
-    ∙ ap (λ n. made b.condition b.operation b.outcome n) s
-  where
-    made : ℕ → ℕ → ℕ → ℕ → Move
-    made condition operation outcome minutes = record { condition = condition; operation = operation; outcome = outcome; minutes = minutes }
-
-pub moves_tell : Tells same_move
-moves_tell a b =
-    let times = both (eqb a.outcome b.outcome) (eqb a.minutes b.minutes) (equal a.outcome b.outcome) (equal a.minutes b.minutes) in
-    let rest = both (eqb a.operation b.operation) (eqb a.outcome b.outcome && eqb a.minutes b.minutes) (equal a.operation b.operation) times in
-    let parts =
-    both (eqb a.condition b.condition) (eqb a.operation b.operation && (eqb a.outcome b.outcome && eqb a.minutes b.minutes)) (equal a.condition b.condition) rest in (
-      λ e. let h = parts.0 e in move_is a b h.0 h.1.0 h.1.1.0 h.1.1.1,
-      λ q. parts.1 (ap (λ (m : Move). m.condition) q, (ap (λ (m : Move). m.operation) q, (ap (λ (m : Move). m.outcome) q, ap (λ (m : Move). m.minutes) q))),
-    )
-
--- a move is one of the list
-abbrev pub listed : Move → List Move → Bool
-listed m ms = some (same_move m) ms
-
-pub listed_in : (m : Move) (ms : List Move) → (listed m ms ≡ true) ↔ In m ms
-listed_in m ms = (
-  λ e. let t = some_in (same_move m) ms e in subst (λ (x : Move). In x ms) (sym ((moves_tell m t.0).0 t.2)) t.1,
-  λ i. in_some (same_move m) m ms i ((moves_tell m m).1 refl),
-)
-
-abbrev pub can_test : List Move → ℕ → ℕ → Move → Bool
-can_test moves c o m = listed m moves && fits c o m
-
-pub can_decided : (moves : List Move) (c o : ℕ) (m : Move) → (can_test moves c o m ≡ true) ↔ Can moves c o m
-can_decided moves c o m = (
-  λ e.
-      let h = (and-eq-true_iff (listed m moves) (fits c o m)).0 e in
-      let f = fits_parts c o m h.1 in
-      ((listed_in m moves).0 h.0, f.0, f.1),
-  λ can. (and-eq-true_iff (listed m moves) (fits c o m)).1 ((listed_in m moves).1 can.0, fits_true c o m can.1 can.2),
-)
-
--- each move of the operation passes a test
-abbrev pub all_fit : List Move → ℕ → ℕ → (Move → Bool) → Bool
-all_fit moves c o p = each (λ (m : Move). not (fits c o m) || p m) moves
-
-pub all_fit_iff : (moves : List Move) (c o : ℕ) (p : Move → Bool) → (all_fit moves c o p ≡ true) ↔ ((m : Move) → Can moves c o m → p m ≡ true)
-all_fit_iff moves c o p = (
-  λ e m can. (implies (fits c o m) (p m)).0 (each_in test moves e m can.0) (fits_true c o m can.1 can.2),
-  λ h. in_each test moves (λ m i. (implies (fits c o m) (p m)).1 (λ t. let f = fits_parts c o m t in h m (i, f.0, f.1))),
-)
-  where
-    test : Move → Bool
-    test m = not (fits c o m) || p m
 
 -- some move of the operation passes a test
 abbrev pub some_fits : List Move → ℕ → ℕ → (Move → Bool) → Bool
@@ -241,7 +128,7 @@ errand_is a b p q r s =
 
 pub errands_tell : Tells same_errand
 errands_tell a b =
-    let moved = both (same_list same_move a.moves b.moves) (alike a.out b.out) (list_tells same_move moves_tell a.moves b.moves) (alike_iff a.out b.out) in
+    let moved = both (same_list same_move a.moves b.moves) (alike a.out b.out) (list_tells same_move same_moves a.moves b.moves) (alike_iff a.out b.out) in
     let rest = both (same_numbers a.quote b.quote) (same_list same_move a.moves b.moves && alike a.out b.out) (numbers_tell a.quote b.quote) moved in
     let parts =
     both (eqb a.request b.request) (same_numbers a.quote b.quote && (same_list same_move a.moves b.moves && alike a.out b.out)) (equal a.request b.request) rest in (

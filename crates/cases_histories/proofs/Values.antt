@@ -1,10 +1,12 @@
 -- One test for claims of values.
 use Rattle.std.proofs.Common.{◌≡◌, Bool, true, eqb, ◌↔◌, List}
 use Rattle.plans.specs.Reach.{each}
-use Rattle.cases_histories.specs.Rows.{Row, AllSay}
+use Rattle.cases_plans.specs.Rows.{Row, AllSay}
+use Rattle.cases_plans.proofs.Rows.{alike, right, all_say}
+use Rattle.cases_plans.proofs.Tests.{equal}
+use Rattle.cases_plans.proofs.Values.{alike_iff, same_list, list_tells}
 use Rattle.cases_histories.specs.Values.{Claim, number, flag, numbers, place, entry, standing, ruled, went, Means}
-use Rattle.cases_histories.proofs.Rows.{alike, right, all_say}
-use Rattle.cases_histories.proofs.Tests.{equal, alike_iff, same_list, list_tells, same_numbers, numbers_tell, same_place, places_tell, same_entry, entries_tell, same_at, ats_tell, same_rule, rules_tell, same_errand, errands_tell}
+use Rattle.cases_histories.proofs.Tests.{same_numbers, numbers_tell, same_place, places_tell, same_entry, entries_tell, same_at, ats_tell, same_rule, rules_tell, same_errand, errands_tell}
 
 abbrev pub test : Claim → Bool
 test (number a b) = eqb a b

@@ -23,12 +23,13 @@ use Rattle.control.specs.declared.terms.Terms.{Terms}
 use Rattle.control.specs.Numbers.{refusal_number}
 use Rattle.control.specs.Rulings.{Found, Priced, Next}
 use Rattle.control.specs.States.{state, at_of, Does, Did}
-use Rattle.cases_histories.specs.Rows.{Row, Says}
+use Rattle.cases_plans.specs.Rows.{Row, Says}
+use Rattle.cases_plans.proofs.Rows.{alike, right, says}
+use Rattle.cases_plans.proofs.Tests.{both, equal}
 use Rattle.cases_histories.specs.Sluice.{as_given}
 use Rattle.cases_histories.specs.Solving.{Buffers, buffers}
 use Rattle.cases_histories.specs.Worlds.{dock, good, terms, Claim, tells_entry, tells_cost, tells_rank, placed, opening, stands, stands_in, finds_quote, finds_step, rules, does, did, Means, rows, OfDocks, WorldsSay}
-use Rattle.cases_histories.proofs.Rows.{alike, right, says}
-use Rattle.cases_histories.proofs.Tests.{both, equal, same_numbers, numbers_tell, same_place, places_tell, same_entry, entries_tell, same_at, ats_tell}
+use Rattle.cases_histories.proofs.Tests.{same_numbers, numbers_tell, same_place, places_tell, same_entry, entries_tell, same_at, ats_tell}
 use Rattle.cases_histories.proofs.Takes.{three}
 use Rattle.cases_histories.proofs.Solving.{same_entries, entries_same, same_costs, costs_same}
 use Rattle.cases_histories.proofs.Decisions.{next_test, next_decided, ruled_test, ruled_decided, does_test, does_decided, did_test, did_decided, same_state, states_tell}

@@ -4,7 +4,7 @@ use Rattle.control.specs.declared.answer.Reply.TheVariants.{Quoted, Granted, Wor
 use Rattle.control.specs.declared.grant.Grant.{Grant}
 use Rattle.control.specs.declared.refusal.Refusal.TheVariants.{NoPlan, Arrived, NotArrived, Stuck}
 use Rattle.control.specs.States.{Answer, answer_of, quote_answer, grant_answer, ask_answer, step_answer, finish_answer, close_answer}
-use Rattle.cases_histories.specs.Rows.{Row, holds, fails, AllSay}
+use Rattle.cases_plans.specs.Rows.{Row, holds, fails, AllSay}
 use Rattle.cases_histories.specs.Sluice.{two, nought}
 
 -- an answer that is computed, and the one that is told

@@ -4,7 +4,7 @@ use Rattle.solver.specs.declared.Entry.TheVariants.{None as NoEntry, There, Work
 use Rattle.solver.specs.Policy.{World}
 use Rattle.histories.specs.declared.Command.TheVariants.{Quote, Ask, Step, Close}
 use Rattle.histories.specs.Calls.{At, Rule, rule, refusal, offered, placed, entry_at, cost_at, is_nothing, is_there, possible_at, stuck, is_out, quote_rules, ask_rules, step_rules, close_rules, rules, rank_of, open_rules, start_at}
-use Rattle.cases_histories.specs.Rows.{Row, holds, fails, AllSay}
+use Rattle.cases_plans.specs.Rows.{Row, holds, fails, AllSay}
 use Rattle.cases_histories.specs.Values.{Claim, number, flag, numbers, place, entry, standing, ruled, Means}
 use Rattle.cases_histories.specs.Sluice.{two, nought, costs, ranks, with_tables, w}
 

@@ -11,7 +11,7 @@ use Rattle.control.specs.declared.refusal.Refusal.TheVariants.{Short, AlreadyOut
 use Rattle.control.specs.Numbers.{refusal_number, refusal_text}
 use Rattle.control.specs.Rulings.{Spot, spot_rules, Spotted, Found, Priced, Next, Target}
 use Rattle.control.specs.States.{Answer, State, state, at_of, Ruled, Balks, Does, Shows, Did}
-use Rattle.cases_histories.specs.Rows.{Row, holds, fails, AllSay}
+use Rattle.cases_plans.specs.Rows.{Row, holds, fails, AllSay}
 use Rattle.cases_histories.specs.Values as values
 use Rattle.cases_histories.specs.Values.{number, place, numbers, standing, ruled as ruling}
 use Rattle.cases_histories.specs.Sluice.{move, fill, flood, lift, two, nought, w, as_given, port}

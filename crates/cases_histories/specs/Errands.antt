@@ -6,7 +6,7 @@ use Rattle.histories.specs.declared.Command.{Command}
 use Rattle.histories.specs.declared.Command.TheVariants.{Quote, Ask, Step, Close}
 use Rattle.histories.specs.Calls.{At, Answer, quoted, granted, worked, closed, refused, Event}
 use Rattle.histories.specs.Errands.{Errand, request_of, moved, ended, noted, errands_after, errands, onto, left}
-use Rattle.cases_histories.specs.Rows.{Row, holds, fails, AllSay}
+use Rattle.cases_plans.specs.Rows.{Row, holds, fails, AllSay}
 use Rattle.cases_histories.specs.Values.{Claim, number, numbers, went, Means}
 use Rattle.cases_histories.specs.Sluice.{lift, flood, two, nought, w}
 use Rattle.cases_histories.specs.Calls.{at}

@@ -6,7 +6,7 @@ use Rattle.histories.specs.declared.Command.{Command}
 use Rattle.histories.specs.declared.Command.TheVariants.{Quote, Ask, Step, Close}
 use Rattle.histories.specs.Calls.{At, Answer, quoted, granted, worked, closed, refused, Passes, Took, Event, History, Opens}
 use Rattle.histories.specs.Promise.{Tells}
-use Rattle.cases_histories.specs.Rows.{Row, holds, fails, AllSay}
+use Rattle.cases_plans.specs.Rows.{Row, holds, fails, AllSay}
 use Rattle.cases_histories.specs.Sluice.{move, fill, flood, lift, hoist, two, nought, costs, ranks, with_tables, w}
 use Rattle.cases_histories.specs.Calls.{at, astray}
 use Rattle.cases_histories.specs.Errands.{event, leaving}

@@ -14,7 +14,7 @@ use Rattle.control.specs.declared.tour.OutingError.{OutingError}
 use Rattle.control.specs.declared.tour.OutingError.TheVariants.{Refused, Memory}
 use Rattle.control.specs.States.{Answer, State, state}
 use Rattle.control.specs.Outings.{Turn, Course, Logged, ShowsAll, Outed, Ready, Told, Failed, outing_error_text}
-use Rattle.cases_histories.specs.Rows.{Row, holds, fails, AllSay}
+use Rattle.cases_plans.specs.Rows.{Row, holds, fails, AllSay}
 use Rattle.cases_histories.specs.Values as values
 use Rattle.cases_histories.specs.Values.{numbers}
 use Rattle.cases_histories.specs.Sluice.{two, nought, w, as_given, port}

@@ -4,7 +4,7 @@ use Rattle.plans.specs.Plans.{Plan, stop, work}
 use Rattle.solver.specs.declared.Entry.{Entry}
 use Rattle.solver.specs.declared.Entry.TheVariants.{None, There, Work}
 use Rattle.solver.specs.Policy.{Safe, Price, Begins, Best, Right, Solved}
-use Rattle.cases_histories.specs.Rows.{Row, holds, fails, AllSay}
+use Rattle.cases_plans.specs.Rows.{Row, holds, fails, AllSay}
 use Rattle.cases_histories.specs.Sluice.{two, nought, entries, costs, ranks, with_tables, w, working}
 
 pub data Claim : Type 0 where

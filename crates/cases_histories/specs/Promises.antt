@@ -8,7 +8,7 @@ use Rattle.solver.specs.Policy.{World, world_of}
 use Rattle.histories.specs.declared.Command.TheVariants.{Quote, Ask, Step, Close}
 use Rattle.histories.specs.Calls.{At, quoted, granted, worked, closed, Event}
 use Rattle.histories.specs.Promise.{Inside, LeastInSimulations, Promise, Promised, Opening}
-use Rattle.cases_histories.specs.Rows.{Row, holds, fails, AllSay}
+use Rattle.cases_plans.specs.Rows.{Row, holds, fails, AllSay}
 use Rattle.cases_histories.specs.Sluice.{move, any, is, isnt, lift, flood, two, nought, entries, costs, ranks, as_given, with_tables, w, working}
 use Rattle.cases_histories.specs.Calls.{at}
 use Rattle.cases_histories.specs.Errands.{event, leaving}

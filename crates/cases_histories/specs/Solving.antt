@@ -10,7 +10,7 @@ use Rattle.solver.specs.declared.SolveError.{SolveError}
 use Rattle.solver.specs.declared.SolveError.TheVariants.{Short, Memory}
 use Rattle.solver.specs.Choices.{ChosenRow, Chosen}
 use Rattle.solver.specs.Solving.{Worked, Filled, Tabled, Untouched, Outcome}
-use Rattle.cases_histories.specs.Rows.{Row, holds, fails, AllSay}
+use Rattle.cases_plans.specs.Rows.{Row, holds, fails, AllSay}
 use Rattle.cases_histories.specs.Sluice.{sluice, two, nought, entries, costs, ranks, as_given}
 
 -- the buffers of a caller

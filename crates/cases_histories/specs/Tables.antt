@@ -9,7 +9,7 @@ use Rattle.solver.specs.declared.SolveError.TheVariants.{Short, Memory}
 use Rattle.solver.specs.Policy.{World, entry_byte, entry_text, kept_set, world_of}
 use Rattle.solver.specs.Solving.{refusal_number, number_text, refusal_text, start_of, zeros, largest_of, places_of, pairs_of, enough}
 use Rattle.solver.specs.Choices.{entry_of, exact_of}
-use Rattle.cases_histories.specs.Rows.{Row, holds, fails, AllSay}
+use Rattle.cases_plans.specs.Rows.{Row, holds, fails, AllSay}
 use Rattle.cases_histories.specs.Values.{Claim, number, flag, numbers, place, entry, Means}
 use Rattle.cases_histories.specs.Sluice.{leave, sluice, two, nought, entries, as_given, w, port}
 

@@ -21,7 +21,7 @@ use Rattle.control.specs.Rulings.{Priced, Next}
 use Rattle.control.specs.States.{Answer, State, state}
 use Rattle.control.specs.Worlds.{world, terms_world, place_in, opening_rules}
 use Rattle.control.specs.Controllers.{beside, at_in, FindsCall, RulesCall, DoesCall, DidCall}
-use Rattle.cases_histories.specs.Rows.{Row, holds, fails}
+use Rattle.cases_plans.specs.Rows.{Row, holds, fails}
 use Rattle.cases_histories.specs.Sluice.{move, two, nought, as_given}
 use Rattle.cases_histories.specs.Calls.{at}
 use Rattle.cases_histories.specs.Solving.{Buffers, buffers}

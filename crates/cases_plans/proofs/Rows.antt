@@ -10,7 +10,7 @@ abbrev pub alike : Bool → Bool → Bool
 alike a b = cond a b (not b)
 
 -- a test that decides a proposition says of it what it says
-says : (P : Type 0) (test stands : Bool) → (test ≡ true) ↔ P → alike test stands ≡ true → Says stands P
+pub says : (P : Type 0) (test stands : Bool) → (test ≡ true) ↔ P → alike test stands ≡ true → Says stands P
 says P true true d e = d.0 refl
 says P true false d e = absurd (false≢true e)
 says P false true d e = absurd (false≢true e)

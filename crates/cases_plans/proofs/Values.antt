@@ -14,7 +14,7 @@ alike_iff false true = (λ e. absurd (false≢true e), λ q. absurd (false≢tru
 alike_iff false false = (λ e. refl, λ q. refl)
 
 -- a test tells whether two things are the same
-abbrev Tells : {A : Type 0} → (A → A → Bool) → Type 0
+abbrev pub Tells : {A : Type 0} → (A → A → Bool) → Type 0
 Tells {A} same = (a b : A) → (same a b ≡ true) ↔ (a ≡ b)
 
 abbrev pub same_list : {A : Type 0} → (A → A → Bool) → List A → List A → Bool
