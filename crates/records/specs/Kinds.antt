@@ -6,6 +6,7 @@ use Rattle.records.specs.declared.kinds.Kind.{Kind}
 use Rattle.records.specs.declared.kinds.Kind.TheVariants.{Condition, Move, Request}
 use Rattle.records.specs.declared.kinds.UnknownKind.{UnknownKind}
 
+-- the byte that stands for a kind
 abbrev pub kind_number : Kind → ℕ
 kind_number Condition = 1
 kind_number Move = 2
@@ -13,7 +14,8 @@ kind_number Request = 3
 
 -- the kind that the byte stands for, or that it stands for none
 abbrev pub Decodes : ℕ → Result Kind UnknownKind → Type 0
-Decodes byte r = MatchResult r (λ k. byte ≡ kind_number k) (λ _. (byte ≢ 1) × (byte ≢ 2) × (byte ≢ 3))
+Decodes byte r =
+    MatchResult r (λ k. byte ≡ kind_number k) (λ _. (byte ≢ kind_number Condition) × (byte ≢ kind_number Move) × (byte ≢ kind_number Request))
 
 -- the number of a bit, from the lowest
 abbrev pub bit_number : Bit → ℕ
