@@ -57,7 +57,11 @@ abbrev pub ServesRow : Domain → ℕ → ℕ → ℕ → Type 0
 ServesRow D zero s c = Unit {0}
 ServesRow D (suc k) s c = Serves D (ServesRow D k) s c
 
--- The rank of a pair: 0 where it is kept; otherwise the least number of requests in a row that it does not serve.
+-- The rank of a pair: 0 where it is kept (and then it serves every number of requests in a row); k + 1 where it is not kept, serves i
+-- requests in a row for each i up to k, and for no i above k. So a rank that is not 0 is the least number of requests in a row that the
+-- pair does not serve. Each pair that there is in a well-formed domain has one rank (`OneRank`). The same is stated of numbers that are
+-- out of range: no simulation holds them, so that 0 is no rank of theirs, and they may have another rank or none. They have none where
+-- the stage is out of range, in a well-formed domain: no request begins there, so that every number of requests is served.
 abbrev pub Rank : Domain → ℕ → ℕ → ℕ → Type 0
 Rank D s c zero = Kept D s c × ((i : ℕ) → ServesRow D i s c)
 Rank D s c (suc k) =
