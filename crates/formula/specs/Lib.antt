@@ -1,2 +1,3 @@
+pub mod Bytes
 pub mod Grammar
 pub mod Truth
