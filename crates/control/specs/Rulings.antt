@@ -4,6 +4,7 @@ use Rattle.plans.specs.Flags.{task_at}
 use Rattle.solver.specs.declared.Entry.TheVariants.{Work}
 use Rattle.solver.specs.Policy.{World}
 use Rattle.histories.specs.Calls.{Rule, rule, refusal, offered, placed, cost_at}
+use Rattle.histories.specs.Refusals.{not_offered, no_condition}
 use Rattle.control.specs.declared.refusal.Refusal.{Refusal}
 use Rattle.control.specs.Numbers.{refusal_number}
 
@@ -15,7 +16,7 @@ pub record Spot (w : World) (s : ℕ) (p : Option ℕ) (q c : ℕ) : Type 0 wher
 
 -- The rules that every request has.
 abbrev pub spot_rules : World → ℕ → Option ℕ → ℕ → List Rule
-spot_rules w s p q = rule 22 (not (offered w s q)) ∷ rule 23 (not (placed w p)) ∷ []
+spot_rules w s p q = rule not_offered (not (offered w s q)) ∷ rule no_condition (not (placed w p)) ∷ []
 
 -- That, or the first of these rules that refuses.
 abbrev pub Spotted : World → ℕ → Option ℕ → ℕ → Result ℕ Refusal → Type 0

@@ -10,6 +10,7 @@ use Rattle.histories.specs.declared.Command.{Command}
 use Rattle.histories.specs.declared.Command.TheVariants.{Quote, Ask, Step, Close}
 use Rattle.histories.specs.Calls.{At, Passes, refusal, rules, cost_at, Took, quoted, granted, worked, closed, refused}
 use Rattle.histories.specs.Calls.{Answer as Told}
+use Rattle.histories.specs.Refusals.{cannot_work}
 use Rattle.control.specs.declared.answer.Reply.{Reply}
 use Rattle.control.specs.declared.answer.Reply.TheVariants.{Quoted, Granted, Worked, Closed}
 use Rattle.control.specs.declared.grant.Grant.{Grant as Token}
@@ -42,11 +43,11 @@ Ruled e w a k (Ok (Granted x)) = (q : ℕ) × ((k ≡ Ask q) × Passes w a (Ask 
 Ruled e w a k (Ok (Worked o)) = (q : ℕ) × ((k ≡ Step q) × Passes w a (Step q) × Next w a.place q o)
 Ruled e w a k (Ok (Closed s)) = (q : ℕ) × ((k ≡ Close q) × Passes w a (Close q) × (s ≡ (task_at w.domain q).to))
 
--- No rule refuses the step, but the lock, whose port is M, does: it belongs to another port. That is refusal 29.
+-- No rule refuses the step, but the lock, whose port is M, does: it belongs to another port. That is the refusal of what cannot be worked.
 abbrev pub Balks : World → List ℕ → Model → State → Command → Refusal → Type 0
 Balks w cs M a k r =
     (q o : ℕ) × ((k ≡ Step q) × Passes w (at_of cs a) (Step q) × Next w (place_of cs a.marks) q o × LockWorked M a.marks o false a.marks
-    × (refusal_number r ≡ 29))
+    × (refusal_number r ≡ cannot_work))
 
 -- One call over a lock whose port is M: where it finds controller and lock, what is asked, what is answered, and where it leaves them. A refusal
 -- changes nothing. A step works the policy's operation, and of the lock's marks after it only the lock's own meaning is known.

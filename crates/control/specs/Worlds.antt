@@ -8,6 +8,7 @@ use Rattle.solver.specs.Policy.{World, world_of}
 use Rattle.solver.specs.Solving.{enough}
 use Rattle.locks.specs.Places.{place_of}
 use Rattle.histories.specs.Calls.{Rule, rule, open_rules}
+use Rattle.histories.specs.Refusals.{short}
 use Rattle.control.specs.declared.policy.Policy.{Policy}
 use Rattle.control.specs.declared.terms.Terms.{Terms}
 
@@ -23,8 +24,9 @@ terms_world k e t = world k e t.port.now t.policy
 abbrev pub place_in : Port → ℕ → Option ℕ
 place_in p m = place_of (model_of p).conditions m
 
--- The refusals of an opening over a lock with the marks m, in their order: 12 a table is too short for the port, then those of the start stage.
+-- The refusals of an opening over a lock with the marks m, in their order: a table is too short for the port, then those of the start
+-- stage.
 abbrev pub opening_rules : {K : Type 0} → Model → (K → List ℕ) → Port → Policy K → ℕ → List Rule
 opening_rules k e p t m =
-    rule 12 (not (enough (domain_of (model_of p)) t.entries.now t.costs.now t.ranks.now))
+    rule short (not (enough (domain_of (model_of p)) t.entries.now t.costs.now t.ranks.now))
     ∷ open_rules (world k e p t) (model_of p).header.stage (place_in p m)

@@ -9,6 +9,7 @@ use Rattle.solver.specs.declared.Entry.TheVariants.{None as Nothing, There, Work
 use Rattle.solver.specs.Policy.{World}
 use Rattle.histories.specs.declared.Command.{Command}
 use Rattle.histories.specs.declared.Command.TheVariants.{Quote, Ask, Step, Close}
+use Rattle.histories.specs.Refusals.{already_out, not_offered, no_condition, dropped, no_plan, arrived, not_arrived, not_out, cannot_work}
 
 -- Where a controller and its lock stand: the stage, the request that is out, and the lock's condition, where its marks are one.
 pub record At : Type 0 where
@@ -82,32 +83,33 @@ abbrev pub is_out : Option ℕ → ℕ → Bool
 is_out None q = false
 is_out (Some p) q = p == q
 
--- The refusals of a request q at stage s where the lock stands at p, in their order: 22 it is not one of this stage, 23 the lock's marks are
--- no condition, 25 the entry is None, 26 it is There, 27 it is not There, 29 it cannot be worked.
+-- The refusals of a request q at stage s where the lock stands at p, in their order.
 abbrev pub quote_rules : World → ℕ → Option ℕ → ℕ → List Rule
-quote_rules w s p q = rule 22 (not (offered w s q)) ∷ rule 23 (not (placed w p)) ∷ rule 25 (is_nothing (entry_at w q p)) ∷ []
+quote_rules w s p q =
+    rule not_offered (not (offered w s q)) ∷ rule no_condition (not (placed w p)) ∷ rule no_plan (is_nothing (entry_at w q p)) ∷ []
 
 abbrev pub ask_rules : World → ℕ → Option ℕ → ℕ → List Rule
 ask_rules w s p q =
-    rule 22 (not (offered w s q)) ∷ rule 23 (not (placed w p)) ∷ rule 25 (is_nothing (entry_at w q p))
-    ∷ rule 29 (stuck w p (entry_at w q p)) ∷ []
+    rule not_offered (not (offered w s q)) ∷ rule no_condition (not (placed w p)) ∷ rule no_plan (is_nothing (entry_at w q p))
+    ∷ rule cannot_work (stuck w p (entry_at w q p)) ∷ []
 
 abbrev pub step_rules : World → ℕ → Option ℕ → ℕ → List Rule
 step_rules w s p q =
-    rule 22 (not (offered w s q)) ∷ rule 23 (not (placed w p)) ∷ rule 25 (is_nothing (entry_at w q p))
-    ∷ rule 26 (is_there (entry_at w q p)) ∷ rule 29 (stuck w p (entry_at w q p)) ∷ []
+    rule not_offered (not (offered w s q)) ∷ rule no_condition (not (placed w p)) ∷ rule no_plan (is_nothing (entry_at w q p))
+    ∷ rule arrived (is_there (entry_at w q p)) ∷ rule cannot_work (stuck w p (entry_at w q p)) ∷ []
 
 abbrev pub close_rules : World → ℕ → Option ℕ → ℕ → List Rule
 close_rules w s p q =
-    rule 22 (not (offered w s q)) ∷ rule 23 (not (placed w p)) ∷ rule 27 (not (is_there (entry_at w q p))) ∷ []
+    rule not_offered (not (offered w s q)) ∷ rule no_condition (not (placed w p))
+    ∷ rule not_arrived (not (is_there (entry_at w q p))) ∷ []
 
--- The refusals of each call, in their order. Before those of its request: 28 a step or a close whose request is not out, 21 an ask while
--- a grant is out.
+-- The refusals of each call, in their order. Before those of its request come that of a step or a close whose request is not out, and
+-- that of an ask while a grant is out.
 abbrev pub rules : World → At → Command → List Rule
 rules w a (Quote q) = quote_rules w a.stage a.place q
-rules w a (Ask q) = rule 21 (is_some a.out) ∷ ask_rules w a.stage a.place q
-rules w a (Step q) = rule 28 (not (is_out a.out q)) ∷ step_rules w a.stage a.place q
-rules w a (Close q) = rule 28 (not (is_out a.out q)) ∷ close_rules w a.stage a.place q
+rules w a (Ask q) = rule already_out (is_some a.out) ∷ ask_rules w a.stage a.place q
+rules w a (Step q) = rule not_out (not (is_out a.out q)) ∷ step_rules w a.stage a.place q
+rules w a (Close q) = rule not_out (not (is_out a.out q)) ∷ close_rules w a.stage a.place q
 
 -- No rule refuses the call.
 abbrev pub Passes : World → At → Command → Type 0
@@ -145,9 +147,9 @@ abbrev pub rank_of : World → ℕ → Option ℕ → ℕ
 rank_of w s None = 0
 rank_of w s (Some c) = w.rank s c
 
--- The refusals of an opening at stage s: 23 the lock's marks are no condition, 24 the rank there is not 0.
+-- The refusals of an opening at stage s: the lock's marks are no condition, or the rank there is not 0.
 abbrev pub open_rules : World → ℕ → Option ℕ → List Rule
-open_rules w s p = rule 23 (not (placed w p)) ∷ rule 24 (not (rank_of w s p == 0)) ∷ []
+open_rules w s p = rule no_condition (not (placed w p)) ∷ rule dropped (not (rank_of w s p == 0)) ∷ []
 
 -- Where an accepted opening stands.
 abbrev pub start_at : ℕ → Option ℕ → At

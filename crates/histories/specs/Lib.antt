@@ -1,3 +1,4 @@
 pub mod Calls
 pub mod Errands
 pub mod Promise
+pub mod Refusals

@@ -10,6 +10,7 @@ use Rattle.solver.specs.declared.Entry.TheVariants.{There}
 use Rattle.solver.specs.Policy.{World, Price, Solved}
 use Rattle.histories.specs.declared.Command.TheVariants.{Ask, Step, Close}
 use Rattle.histories.specs.Calls.{At, Answer, quoted, granted, worked, closed, Took, Event, History, offered, entry_at, refusal, open_rules, start_at, Opens}
+use Rattle.histories.specs.Refusals.{dropped}
 use Rattle.histories.specs.Errands.{Errand, errands, left, onto, request_of}
 
 -- The plan meets request q from c and ends inside R.
@@ -65,7 +66,7 @@ PromiseHolds =
 -- An opening at stage s over a lock in condition c is accepted where some simulation holds the pair, and refused where none does.
 pub record Opening (w : World) (s c : ℕ) : Type 0 where
   pub accepts : Opens w s (Some c) ↔ Kept w.domain s c
-  pub refuses : (refusal (open_rules w s (Some c)) ≡ Some 24) ↔ (Kept w.domain s c → ⊥)
+  pub refuses : (refusal (open_rules w s (Some c)) ≡ Some dropped) ↔ (Kept w.domain s c → ⊥)
 
 abbrev pub OpeningHolds : Type 0
 OpeningHolds = (w : World) → Solved w → (s c : ℕ) → s < w.domain.stages → c < w.domain.conditions → Opening w s c
