@@ -1,3 +1,4 @@
 pub mod Limits
 pub mod Model
+pub mod Numbers
 pub mod Valid

@@ -1,6 +1,7 @@
 -- What every port keeps to, said of its parts.
 use Rattle.std.specs.Prelude.{◌≡◌, ℕ, ◌+◌, ◌*◌, ◌^◌, ◌<◌, ◌≤◌, true, ◌⊎◌, List, [], ◌∷◌, length, vec_items, slice_index, slice_index_or}
 use Rattle.formula.specs.Truth.{is_formula}
+use Rattle.port.specs.Numbers.{longest_text, byte_end}
 use Rattle.port.specs.declared.Move.{Move}
 use Rattle.port.specs.declared.Request.{Request}
 
@@ -25,9 +26,9 @@ Marked marks cs = (i : ℕ) → i < length cs → slice_index cs i < 2 ^ marks
 abbrev pub Rise : List ℕ → Type 0
 Rise cs = (i j : ℕ) → i < j → j < length cs → slice_index cs i < slice_index cs j
 
--- a move's place in the order of moves, which is by condition, then operation, then outcome
+-- a move's place in the order of moves, which is by condition, then operation, then outcome: each is a byte, and the three are its digits
 abbrev pub key : Move → ℕ
-key m = 65536 * m.condition + 256 * m.operation + m.outcome
+key m = byte_end ^ 2 * m.condition + byte_end * m.operation + m.outcome
 
 -- the condition, the operation and the outcome of each move exist
 abbrev pub MovesExist : ℕ → ℕ → List Move → Type 0
@@ -42,9 +43,9 @@ Limited m = (m.condition < 256) × (m.operation < 32) × (m.outcome < 256) × (m
 abbrev pub MovesRise : List Move → Type 0
 MovesRise ms = (i j : ℕ) → i < j → j < length ms → key (at ms i) < key (at ms j)
 
--- a text of a request: a formula over the port's marks, of 1 to 63 bytes
+-- a text of a request: a formula over the port's marks, of 1 byte to the longest
 abbrev pub TextOk : ℕ → List ℕ → Type 0
-TextOk marks t = (0 < length t) × (length t ≤ 63) × (is_formula marks t ≡ true)
+TextOk marks t = (0 < length t) × (length t ≤ longest_text) × (is_formula marks t ≡ true)
 
 -- the stages of a request exist
 abbrev pub Staged : ℕ → List Request → Type 0

@@ -2,6 +2,7 @@
 #![tactic(auto)]
 
 ghost use Rattle.std.specs.Prelude.{◌<◌, ◌≤◌, vec_len};
+ghost use Rattle.port.specs.Numbers.{longest_text};
 
 mod held;
 
@@ -31,7 +32,7 @@ pub struct Move {
 pub struct Text {
     pub bytes: Vec<u8>,
     ghost some: { 0 < vec_len bytes },
-    ghost few: { vec_len bytes ≤ 63 },
+    ghost few: { vec_len bytes ≤ longest_text },
 }
 
 // At stage `from`, the request to go on to stage `to`: keep to `keep` on the way, and end where `reach` holds.

@@ -2,6 +2,7 @@
 ghost use Rattle.std.specs.Prelude.{◌≤◌, IfOk};
 ghost use Rattle.faults.specs.declared.layers.PortFault.TheVariants.{Record};
 ghost use Rattle.faults.specs.declared.layers.RecordFault.TheVariants.{Byte};
+ghost use Rattle.port.specs.Numbers.{most_marks};
 ghost use Rattle.reading.specs.Reading.{opening, count, start_stage, heading};
 ghost use Rattle.reader.specs.Reads.{Reads, itself};
 
@@ -54,7 +55,7 @@ impl<'a> Reader<'a> {
 
     pub fn next_header(&mut self) -> Result<Header, PortFault>
         ensures read { Reads heading itself itself self.old self.new result }
-        ensures marks { IfOk result (λ h. h.marks ≤ 16) }
+        ensures marks { IfOk result (λ h. h.marks ≤ most_marks) }
     {
         self.next_opening()?;
         let marks = self.next_count(MARKS)?;

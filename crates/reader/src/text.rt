@@ -1,6 +1,7 @@
 // A text that stands in a sheet.
 ghost use Rattle.std.specs.Prelude.{◌≡◌, ℕ, ◌+◌, ◌^◌, ◌<◌, ◌≤◌, List, length, MatchResult};
 ghost use Rattle.formula.specs.Grammar.{verdict};
+ghost use Rattle.port.specs.Numbers.{longest_text};
 ghost use Rattle.faults.specs.declared.layers.PortFault.TheVariants.{Record};
 ghost use Rattle.reading.specs.Reading.{Step, fault, judged};
 
@@ -13,7 +14,7 @@ pub struct SheetText<'a> {
     pub bytes: &'a [u8],
     pub place: Option<usize>,
     ghost some: { 0 < length bytes.now },
-    ghost few: { length bytes.now ≤ 63 },
+    ghost few: { length bytes.now ≤ longest_text },
 }
 
 // A text that is there, and the place where it begins.
@@ -22,7 +23,7 @@ pub(crate) struct TextAt<'a> {
     pub(crate) bytes: &'a [u8],
     pub(crate) place: usize,
     ghost some: { 0 < length bytes.now },
-    ghost few: { length bytes.now ≤ 63 },
+    ghost few: { length bytes.now ≤ longest_text },
     ghost within: { place + length bytes.now < 2 ^ 64 },
 }
 

@@ -1,5 +1,6 @@
 // What the header and the records read so far tell of a port.
 ghost use Rattle.std.specs.Prelude.{◌≤◌};
+ghost use Rattle.port.specs.Numbers.{most_marks};
 
 use port::{Header, Move, Request};
 
@@ -10,5 +11,5 @@ pub struct Draft {
     pub conditions: Vec<u16>,
     pub moves: Vec<Move>,
     pub requests: Vec<Request>,
-    ghost marks_few: { header.marks ≤ 16 },
+    ghost marks_few: { header.marks ≤ most_marks },
 }
