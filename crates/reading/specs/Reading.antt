@@ -1,9 +1,11 @@
 -- How a sheet is read, in the order of its checks.
-use Rattle.std.specs.Prelude.{ℕ, zero, suc, ◌+◌, ◌-◌, ◌*◌, ◌/◌, ◌%◌, ◌^◌, min, Bool, true, false, cond, List, [], ◌∷◌, ◌++◌, length, take, drop, ◌==◌, nat_le, nat_lt, slice_index}
+use Rattle.std.specs.Prelude.{ℕ, zero, suc, ◌+◌, ◌-◌, ◌*◌, ◌/◌, ◌%◌, ◌^◌, min, Bool, true, false, cond, List, [], ◌∷◌, ◌++◌, length, take, drop, ◌==◌, nat_le, nat_lt, slice_index, codes}
 use mathlib.Core.List as List
+use Rattle.formula.specs.Bytes.{one_byte}
 use Rattle.formula.specs.Grammar.{Verdict, verdict, whole, stuck}
 use Rattle.port.specs.declared.Header.{Header}
 use Rattle.port.specs.declared.Move.{Move}
+use Rattle.port.specs.Numbers.{most_marks, most_operations, most_stages, most_conditions, most_moves, most_requests, longest_text, byte_end, byte_bits}
 use Rattle.port.specs.Limits.{key}
 use Rattle.port.specs.Model.{Model, RequestModel}
 use Rattle.faults.specs.declared.layers.ByteFault.TheVariants.{Ends, Opening}
@@ -48,7 +50,7 @@ minutes false p s = got 0 p s
 minutes true p s =
     and_then (byte p s) (λ high q r.
     and_then (byte q r) (λ low q r.
-    provided (nat_lt 0 (256 * high + low)) (Record (Absent p)) (got (256 * high + low) q r)))
+    provided (nat_lt 0 (byte_end * high + low)) (Record (Absent p)) (got (byte_end * high + low) q r)))
 
 abbrev pub same : List ℕ → List ℕ → Bool
 same [] [] = true
@@ -65,11 +67,11 @@ both a b = cond a b false
 
 -- the text of an absent one
 abbrev pub absent : List ℕ
-absent = 49 ∷ []
+absent = one_byte ∷ []
 
--- the length of a text, from 1 to 63, which is judged before the text's bytes are looked for
+-- the length of a text, from 1 to the longest, which is judged before the text's bytes are looked for
 unfoldable pub text_length : ℕ → List ℕ → Step ℕ
-text_length p s = and_then (byte p s) (λ n q r. provided (both (nat_lt 0 n) (nat_le n 63)) (Missing p) (got n q r))
+text_length p s = and_then (byte p s) (λ n q r. provided (both (nat_lt 0 n) (nat_le n longest_text)) (Missing p) (got n q r))
 
 -- a text that is whole and is not the absent one
 unfoldable pub whole_text : ℕ → List ℕ → Step (List ℕ)
@@ -99,10 +101,10 @@ rises xs v = cond (length xs == 0) true (nat_lt (slice_index xs (length xs - 1))
 
 -- the marks of a low and of a high byte that exist
 abbrev pub low_limit : ℕ → ℕ
-low_limit marks = 2 ^ min marks 8
+low_limit marks = 2 ^ min marks byte_bits
 
 abbrev pub high_limit : ℕ → ℕ
-high_limit marks = 2 ^ (marks - 8)
+high_limit marks = 2 ^ (marks - byte_bits)
 
 -- the field of bit i of a map is there
 abbrev pub present : ℕ → ℕ → Bool
@@ -113,7 +115,7 @@ unfoldable pub condition : Model → ℕ → ℕ → ℕ → ℕ → List ℕ �
 condition m at map_at map p s =
     and_then (field (present map 0) map_at (low_limit m.header.marks) p s) (λ low q r.
     and_then (field (present map 1) map_at (high_limit m.header.marks) q r) (λ high q r.
-    provided (rises m.conditions (low + 256 * high)) (Sequence at) (got (low + 256 * high) q r)))
+    provided (rises m.conditions (low + byte_end * high)) (Sequence at) (got (low + byte_end * high) q r)))
 
 unfoldable pub move : Model → ℕ → ℕ → ℕ → ℕ → List ℕ → Step Move
 move m at map_at map p s =
@@ -135,17 +137,39 @@ request m map_at map p s =
 abbrev pub none : {V : Type 0} → List V → Bool
 none xs = length xs == 0
 
--- the kinds are 1, 2 and 3, and they come in this order
+-- The kinds of records, by the bytes that stand for them.
+abbrev pub condition_kind : ℕ
+condition_kind = 1
+
+abbrev pub move_kind : ℕ
+move_kind = 2
+
+abbrev pub request_kind : ℕ
+request_kind = 3
+
+-- the kinds come in this order
 abbrev pub follows : Model → ℕ → Bool
 follows m k =
-    cond (k == 1) (both (none m.moves) (none m.requests)) (cond (k == 2) (none m.requests) (k == 3))
+    cond (k == condition_kind) (both (none m.moves) (none m.requests)) (
+    cond (k == move_kind) (none m.requests) (
+    k == request_kind))
 
 abbrev pub room : Model → ℕ → Bool
 room m k =
-    cond (k == 1) (nat_lt (length m.conditions) 256) (cond (k == 2) (nat_lt (length m.moves) 4096) (nat_lt (length m.requests) 32))
+    cond (k == condition_kind) (nat_lt (length m.conditions) most_conditions) (
+    cond (k == move_kind) (nat_lt (length m.moves) most_moves) (
+    nat_lt (length m.requests) most_requests))
 
+-- how many fields a condition has, and a move or a request
+abbrev pub condition_fields : ℕ
+condition_fields = 2
+
+abbrev pub other_fields : ℕ
+other_fields = 4
+
+-- a map has a bit for each field and no other: it is below this
 abbrev pub map_limit : ℕ → ℕ
-map_limit k = cond (k == 1) 4 16
+map_limit k = cond (k == condition_kind) (2 ^ condition_fields) (2 ^ other_fields)
 
 -- how a record begins: its kind and where that stands, its map and where that stands
 pub record Head : Type 0 where
@@ -167,8 +191,8 @@ head m p s =
 
 unfoldable pub body : Model → Head → ℕ → List ℕ → Step Entry
 body m h p s =
-    cond (h.kind == 1) (and_then (condition m h.place h.map_place h.map p s) (λ c q r. got (condition_entry c) q r)) (
-    cond (h.kind == 2) (and_then (move m h.place h.map_place h.map p s) (λ v q r. got (move_entry v) q r)) (
+    cond (h.kind == condition_kind) (and_then (condition m h.place h.map_place h.map p s) (λ c q r. got (condition_entry c) q r)) (
+    cond (h.kind == move_kind) (and_then (move m h.place h.map_place h.map p s) (λ v q r. got (move_entry v) q r)) (
     and_then (request m h.map_place h.map p s) (λ w q r. got (request_entry w) q r)))
 
 unfoldable pub entry : Model → ℕ → List ℕ → Step Entry
@@ -182,17 +206,17 @@ unfoldable pub start_stage : ℕ → ℕ → List ℕ → Step ℕ
 start_stage stages p s = and_then (byte p s) (λ b q r. provided (nat_lt b stages) (Count p) (got b q r))
 
 abbrev pub opening_bytes : List ℕ
-opening_bytes = 71 ∷ 65 ∷ 84 ∷ 69 ∷ []
+opening_bytes = codes "GATE"
 
 unfoldable pub opening : ℕ → List ℕ → Step (List ℕ)
-opening p s = and_then (bytes 4 p s) (λ w q r. provided (same w opening_bytes) (Record (Byte Opening)) (got w q r))
+opening p s = and_then (bytes (length opening_bytes) p s) (λ w q r. provided (same w opening_bytes) (Record (Byte Opening)) (got w q r))
 
 unfoldable pub heading : ℕ → List ℕ → Step Header
 heading p s =
     and_then (opening p s) (λ _ q r.
-    and_then (count 16 q r) (λ marks q r.
-    and_then (count 32 q r) (λ operations q r.
-    and_then (count 16 q r) (λ stages q r.
+    and_then (count most_marks q r) (λ marks q r.
+    and_then (count most_operations q r) (λ operations q r.
+    and_then (count most_stages q r) (λ stages q r.
     and_then (start_stage stages q r) (λ stage q r.
     and_then (byte q r) (λ c q r.
     got (record { marks = marks; operations = operations; stages = stages; stage = stage; condition = c }) q r))))))

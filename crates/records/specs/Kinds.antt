@@ -1,5 +1,6 @@
 -- The kinds of records as the bytes that stand for them, and the bits of a map as their numbers.
 use Rattle.std.specs.Prelude.{◌≡◌, ◌≢◌, ℕ, MatchResult, Result}
+use Rattle.reading.specs.Reading.{condition_kind, move_kind, request_kind}
 use Rattle.records.specs.declared.kinds.Bit.{Bit}
 use Rattle.records.specs.declared.kinds.Bit.TheVariants.{First, Second, Third, Fourth}
 use Rattle.records.specs.declared.kinds.Kind.{Kind}
@@ -8,9 +9,9 @@ use Rattle.records.specs.declared.kinds.UnknownKind.{UnknownKind}
 
 -- the byte that stands for a kind
 abbrev pub kind_number : Kind → ℕ
-kind_number Condition = 1
-kind_number Move = 2
-kind_number Request = 3
+kind_number Condition = condition_kind
+kind_number Move = move_kind
+kind_number Request = request_kind
 
 -- the kind that the byte stands for, or that it stands for none
 abbrev pub Decodes : ℕ → Result Kind UnknownKind → Type 0
