@@ -1,5 +1,6 @@
 // The two cost models that there are.
-ghost use Rattle.std.specs.Prelude.{◌≡◌, ◌+◌, ◌^◌, ◌<◌, refl};
+ghost use Rattle.std.specs.Prelude.{◌≡◌, ◌+◌, ◌^◌, ◌<◌, ◌≤◌, refl};
+ghost use Rattle.port.specs.Numbers.{minutes_end};
 ghost use Rattle.costs.specs.Models.{count_list, count_sized, minutes_laws, minutes_model, moves_laws, moves_model, time_list, time_sized};
 
 use crate::model::{CostModel, Named};
@@ -104,7 +105,7 @@ impl CostModel for Minutes {
 
     // Whatever the run, exact while the sums fit with any move.
     fn join(m: &Move, c: Time) -> Time
-        ensures joined { c.minutes + 65535 < 2 ^ 32 → c.moves + 1 < 2 ^ 32 → (result.minutes ≡ c.minutes + m.now.minutes) × (result.moves ≡ c.moves + 1) }
+        ensures joined { c.minutes + minutes_end ≤ 2 ^ 32 → c.moves + 1 < 2 ^ 32 → (result.minutes ≡ c.minutes + m.now.minutes) × (result.moves ≡ c.moves + 1) }
     {
         Time {
             minutes: add_minutes(c.minutes, m.minutes),

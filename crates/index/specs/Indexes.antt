@@ -2,11 +2,12 @@
 use Rattle.std.specs.Prelude.{◌≡◌, ℕ, ◌<◌, ◌≤◌, Bool, true, false, List, [], length, ◌≢◌, ◌==◌, filter, slice_index_or}
 use Rattle.std.specs.Borrow.{Bor}
 use Rattle.port.specs.Limits.{at, In}
+use Rattle.port.specs.Numbers.{minutes_end}
 use Rattle.port.specs.declared.Move.{Move}
 
 -- the minutes of each move are as small as their type says
 abbrev pub Timed : List Move → Type 0
-Timed ms = (i : ℕ) → i < length ms → (at ms i).minutes < 65536
+Timed ms = (i : ℕ) → i < length ms → (at ms i).minutes < minutes_end
 
 -- The place where the moves of condition c begin: it is one of the list, or its end; before it conditions are below c, and from there
 -- on they are not.

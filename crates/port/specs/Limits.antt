@@ -1,7 +1,7 @@
 -- What every port keeps to, said of its parts.
 use Rattle.std.specs.Prelude.{◌≡◌, ℕ, ◌+◌, ◌*◌, ◌^◌, ◌<◌, ◌≤◌, true, ◌⊎◌, List, [], ◌∷◌, length, vec_items, slice_index, slice_index_or}
 use Rattle.formula.specs.Truth.{is_formula}
-use Rattle.port.specs.Numbers.{longest_text, byte_end}
+use Rattle.port.specs.Numbers.{byte_end, longest_text, minutes_end, most_conditions, most_operations}
 use Rattle.port.specs.declared.Move.{Move}
 use Rattle.port.specs.declared.Request.{Request}
 
@@ -37,7 +37,7 @@ MovesExist conditions operations ms =
 
 -- the numbers of a move are within the limits of every port
 abbrev pub Limited : Move → Type 0
-Limited m = (m.condition < 256) × (m.operation < 32) × (m.outcome < 256) × (m.minutes < 65536)
+Limited m = (m.condition < most_conditions) × (m.operation < most_operations) × (m.outcome < most_conditions) × (m.minutes < minutes_end)
 
 -- moves rise strictly in their order
 abbrev pub MovesRise : List Move → Type 0
