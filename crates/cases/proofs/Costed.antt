@@ -5,10 +5,10 @@ use native.Mathlib.Decide.{dec_lt}
 use Rattle.port.specs.Limits.{In}
 use Rattle.port.specs.declared.Move.{Move}
 use Rattle.plans.specs.Plans.{Plan, stop, work, Within, Can, IsRun, Attains}
-use Rattle.plans.specs.Reach.{some, each, leads}
+use Rattle.plans.specs.Reach.{any_of, each, leads}
 use Rattle.plans.proofs.Decide.{each_in, some_in, implies, or_cases, leads_iff}
 use Rattle.costs.specs.Costs.{Model, WeakLaws, Sized, Le, cost as run_cost}
-use Rattle.search.specs.Answers.{Costs, Prices, Answer}
+use Rattle.search.specs.Answers.{Costs, Prices, RightChoice}
 use Rattle.search.specs.Labels.{After, Worst, Offered, Final}
 use Rattle.search.specs.declared.Choice.{Choice}
 use Rattle.search.specs.declared.Choice.TheVariants.{None as NoChoice, There as ThereChoice, Work as WorkChoice}
@@ -63,14 +63,14 @@ module _ (k : Model) (moves : List Move) (keep goal : ℕ → Bool) (n : ℕ) (e
 
   -- of each operation in c, some move passes
   abbrev each_has : ℕ → (Move → Bool) → Bool
-  each_has c p = each (λ (a : Move). not (eqb a.condition c) || some (λ (m : Move). here c a.operation m && p m) moves) moves
+  each_has c p = each (λ (a : Move). not (eqb a.condition c) || any_of (λ (m : Move). here c a.operation m && p m) moves) moves
 
   -- each move of the operation costs at most f with what follows it, and some move as much
   abbrev within_all : ℕ → ℕ → List ℕ → Bool
   within_all c o f = each (λ (m : Move). not (here c o m) || meets (λ (a : List ℕ). k.within (k.join m a) f) (table m.outcome)) moves
 
   abbrev within_some : ℕ → ℕ → List ℕ → Bool
-  within_some c o f = some (λ (m : Move). here c o m && meets (λ (a : List ℕ). k.within f (k.join m a)) (table m.outcome)) moves
+  within_some c o f = any_of (λ (m : Move). here c o m && meets (λ (a : List ℕ). k.within f (k.join m a)) (table m.outcome)) moves
 
   -- the entries lead from c to the goal, in at most so many moves
   abbrev onward : Entry → ℕ → (ℕ → Bool) → Bool
@@ -117,8 +117,8 @@ module _ (k : Model) (moves : List Move) (keep goal : ℕ → Bool) (n : ℕ) (e
   has_one c p e o a can =
       let passes : Move → Bool = λ m. here c a.operation m && p m in
       let found = some_in passes moves
-      ((implies (eqb a.condition c) (some passes moves)).0
-      (each_in (λ (b : Move). not (eqb b.condition c) || some (λ (m : Move). here c b.operation m && p m) moves) moves e a can.0)
+      ((implies (eqb a.condition c) (any_of passes moves)).0
+      (each_in (λ (b : Move). not (eqb b.condition c) || any_of (λ (m : Move). here c b.operation m && p m) moves) moves e a can.0)
       (eq-eqb a.condition c can.1)) in
       let m = found.0 in
       let h = (and-eq-true_iff (here c a.operation m) (p m)).0 found.2 in
@@ -359,10 +359,10 @@ module _ (k : Model) (moves : List Move) (keep goal : ℕ → Bool) (n : ℕ) (e
         price c f q false g = plan_of n c f (worked c f q g).2.arrived q
 
     -- each entry with its cost answers for its condition
-    pub answers : (c : ℕ) → c < n → (x : Entry) → entry c ≡ x → Answer k (λ (f : List ℕ). f) moves keep goal c (choice x (cost c))
+    pub answers : (c : ℕ) → c < n → (x : Entry) → entry c ≡ x → RightChoice k (λ (f : List ℕ). f) moves keep goal c (choice x (cost c))
     answers c l x q = go x q (subst (λ (y : Entry). judged y c ≡ true) q (judged_at c l))
       where
-        go : (y : Entry) → entry c ≡ y → judged y c ≡ true → Answer k (λ (f : List ℕ). f) moves keep goal c (choice y (cost c))
+        go : (y : Entry) → entry c ≡ y → judged y c ≡ true → RightChoice k (λ (f : List ℕ). f) moves keep goal c (choice y (cost c))
         go None r j = λ p a. closed p c l (table_in c l ∙ ap (λ (y : Entry). priced y (cost c)) r) a
         go There r j = (there c j).0
         go (Work o) r j =

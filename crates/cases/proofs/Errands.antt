@@ -7,7 +7,7 @@ use Rattle.port.specs.Valid.{Valid}
 use Rattle.port.specs.declared.Move.{Move}
 use Rattle.plans.specs.Plans.{Can, end}
 use Rattle.plans.specs.Flags.{task_at}
-use Rattle.plans.specs.Reach.{some, each}
+use Rattle.plans.specs.Reach.{any_of, each}
 use Rattle.plans.proofs.Decide.{some_in, each_in, implies}
 use Rattle.costs.specs.Costs.{cost}
 use Rattle.locks.specs.Places.{IsAt, Leads, place_of}
@@ -89,7 +89,7 @@ before_true x d y e h =
 abbrev picked : PortModel → Picks → ℕ → ℕ → ℕ → Bool
 picked M (scripted bytes) c o d = is (named_by (slice_index bytes 0) (outcomes M.moves c o)) d
 picked M nearest c o d =
-    some (λ (e : ℕ). eqb e d) (outcomes M.moves c o)
+    any_of (λ (e : ℕ). eqb e d) (outcomes M.moves c o)
     && each (λ (e : ℕ). before (change M c d) d (change M c e) e) (outcomes M.moves c o)
 
 picked_true : (M : PortModel) (p : Picks) (c o d : ℕ) → picked M p c o d ≡ true → Picked M p c o d
@@ -97,7 +97,7 @@ picked_true M (scripted bytes) c o d e = is_true (named_by (slice_index bytes 0)
 picked_true M nearest c o d e =
     let ds = outcomes M.moves c o in
     let after : ℕ → Bool = λ e. before (change M c d) d (change M c e) e in
-    let h = (and-eq-true_iff (some (λ (e : ℕ). eqb e d) ds) (each after ds)).0 e in
+    let h = (and-eq-true_iff (any_of (λ (e : ℕ). eqb e d) ds) (each after ds)).0 e in
     let t = some_in (λ (e : ℕ). eqb e d) ds h.0 in
     (subst (λ (x : ℕ). In x ds) (eqb-true t.0 d t.2) t.1, λ b i. before_true (change M c d) d (change M c b) b (each_in after ds h.1 b i))
 
@@ -122,7 +122,7 @@ module _ (r : PolicyRow) where
   abbrev makes : Picks → ℕ → ℕ → Move → Bool
   makes p q c m =
       works (w.entry q c) m.operation
-      && (some (λ (a : Move). same a m) M.moves
+      && (any_of (λ (a : Move). same a m) M.moves
       && (eqb m.condition c
       && (picked M p c m.operation m.outcome
       && each (λ (a : Move). not (eqb a.condition c && (eqb a.operation m.operation && eqb a.outcome m.outcome)) || same a m) M.moves)))
@@ -138,7 +138,7 @@ module _ (r : PolicyRow) where
       let fit : Move → Bool = λ a. eqb a.condition c && (eqb a.operation m.operation && eqb a.outcome m.outcome) in
       let single : Bool = each (λ (a : Move). not (fit a) || same a m) M.moves in
       let pick : Bool = picked M p c m.operation m.outcome in
-      let there : Bool = some (λ (a : Move). same a m) M.moves in
+      let there : Bool = any_of (λ (a : Move). same a m) M.moves in
       let e1 = (and-eq-true_iff (works (w.entry q c) m.operation) (there && (eqb m.condition c && (pick && single)))).0 e in
       let e2 = (and-eq-true_iff there (eqb m.condition c && (pick && single))).0 e1.1 in
       let e3 = (and-eq-true_iff (eqb m.condition c) (pick && single)).0 e2.1 in

@@ -1,7 +1,7 @@
 -- The rows of formulas, each by one computed test.
 use Rattle.std.proofs.Common.{◌≡◌, ℕ, Bool, true, false, ◌&&◌, eqb, leb, length, refl, ap, subst, eqb-true, leb-true}
 use mathlib.Core.Bool.{and-eq-true_iff, false≢true}
-use Rattle.formula.specs.Grammar.{Whole, NoFormula, Verdict, whole, stuck, step, goes, verdict}
+use Rattle.formula.specs.Grammar.{Whole, NoFormula, TextVerdict, whole, stuck, step, goes, verdict}
 use Rattle.formula.specs.Truth.{read, truth, is_formula}
 use Rattle.formula.proofs.Language.{no_formula}
 use Rattle.formula.proofs.Truths.{formula_truth}
@@ -27,11 +27,11 @@ pub formulas_hold : FormulasHold
 formulas_hold = all_hold (λ r. Whole r.marks r.on r.text r.value) right right_holds rows all_right
 
 -- the reading is stuck there
-abbrev is_stuck : Verdict → ℕ → Bool
+abbrev is_stuck : TextVerdict → ℕ → Bool
 is_stuck whole p = false
 is_stuck (stuck q) p = eqb q p
 
-is_stuck_true : (v : Verdict) (p : ℕ) → is_stuck v p ≡ true → v ≡ stuck p
+is_stuck_true : (v : TextVerdict) (p : ℕ) → is_stuck v p ≡ true → v ≡ stuck p
 is_stuck_true whole p e = absurd (false≢true e)
 is_stuck_true (stuck q) p e = ap stuck (eqb-true q p e)
 

@@ -11,7 +11,7 @@ use Rattle.costs.specs.Costs.{Laws}
 use Rattle.costs.proofs.Order.{weaken}
 use Rattle.solver.specs.declared.Entry.{Entry}
 use Rattle.solver.specs.declared.Entry.TheVariants.{None, There, Work}
-use Rattle.solver.specs.Choices.{entry_of, exact_of}
+use Rattle.solver.specs.Choices.{choice_entry, exact_of}
 use Rattle.solver.specs.Policy.{World, Right, Solved}
 use Rattle.rounds.proofs.Freshness.{task_staged}
 use Rattle.solver.proofs.KeptSets.{kept_largest, kept_simulates}
@@ -73,7 +73,7 @@ module _ (w : World) (laws : Laws w.model) (e : solves w ≡ true) where
     passes = every_at (λ c. costed w q c) w.domain.conditions (every_at (λ q. every (λ c. costed w q c) w.domain.conditions) (length w.domain.tasks) rest.1 q h)
 
     answered : (c : ℕ) → c < w.domain.conditions → (x : Entry) → w.entry q c ≡ x →
-        Right w q c (entry_of (choice x (w.cost q c))) (exact_of w.model (λ (f : List ℕ). f) (choice x (w.cost q c)))
+        Right w q c (choice_entry (choice x (w.cost q c))) (exact_of w.model (λ (f : List ℕ). f) (choice x (w.cost q c)))
     answered c l x r =
         answer_right w wf q (task_at w.domain q).keep (goal w q) (λ c l. refl) ends (λ (f : List ℕ). f) c l (choice x (w.cost q c))
         (answers w.model w.domain.moves (task_at w.domain q).keep (goal w q) w.domain.conditions (w.entry q) (w.cost q) (weaken laws) wf.within passes c l x r)

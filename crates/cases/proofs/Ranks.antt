@@ -5,7 +5,7 @@ use native.Mathlib.Decide.{dec_lt}
 use Rattle.formula.specs.Truth.{read, truth}
 use Rattle.plans.specs.Domains.{domain_of}
 use Rattle.plans.specs.Flags.{every, rank_at}
-use Rattle.plans.specs.Reach.{each, left, serves}
+use Rattle.plans.specs.Reach.{each, left_after, serves}
 use Rattle.plans.specs.Simulation.{Domain, Task, WellFormed, InRange, Rank}
 use Rattle.plans.proofs.Decide.{each_in, or_left, or_right, left_iterates, row_kept, serves_same}
 use Rattle.plans.proofs.Flags.{every_at}
@@ -53,10 +53,10 @@ module _ (D : Domain) (wf : WellFormed D) (rank : ℕ → ℕ → ℕ) (e : rank
       ]
 
   -- the pairs left are as the ranks say
-  left_lasts : (k : ℕ) → k ≤ most → (s c : ℕ) → InRange D s c → left D k s c ≡ lasts rank k s c
+  left_lasts : (k : ℕ) → k ≤ most → (s c : ℕ) → InRange D s c → left_after D k s c ≡ lasts rank k s c
   left_lasts zero l s c r = at_first (rank s c)
   left_lasts (suc k) l s c r =
-      serves_same D wf (left D k) (lasts rank k) (left_lasts k (omega arith)) s c r.1
+      serves_same D wf (left_after D k) (lasts rank k) (left_lasts k (omega arith)) s c r.1
       ∙ alike_true (serves D (lasts rank k) s c) (lasts rank (suc k) s c)
       (pairwise_at D (λ s c. alike (serves D (lasts rank k) s c) (lasts rank (suc k) s c))
       (every_at (λ k. pairwise D (λ s c. alike (serves D (lasts rank k) s c) (lasts rank (suc k) s c))) most steps k (omega arith)) s c r)
@@ -70,7 +70,7 @@ module _ (D : Domain) (wf : WellFormed D) (rank : ℕ → ℕ → ℕ) (e : rank
           ((left_serves D wf most s c r).0 (left_lasts most (omega arith) s c r ∙ or_left (eqb (rank s c) 0) (ltb most (rank s c)) (eq-eqb (rank s c) 0 q))))
       go (suc j) q =
           let l : suc j ≤ most = omega (arith, few s c r) in
-          dropped_rank D wf (left D) (left_iterates D wf) j s c r
+          dropped_rank D wf (left_after D) (left_iterates D wf) j s c r
           (left_lasts j (omega arith) s c r ∙ or_right (eqb (rank s c) 0) (ltb j (rank s c)) (lt-ltb j (rank s c) (omega arith)))
           (left_lasts (suc j) l s c r ∙ rw (ne_eqb (rank s c) 0 (λ z. omega arith), le-ltb (suc j) (rank s c) (omega arith)) refl)
 

@@ -4,17 +4,17 @@ use mathlib.Core.Bool.{and-eq-true_iff, false≢true}
 use Rattle.port.specs.Model.{Model}
 use Rattle.port.specs.declared.Move.{Move}
 use Rattle.plans.specs.Flags.{task_at}
-use Rattle.plans.specs.Reach.{some}
+use Rattle.plans.specs.Reach.{any_of}
 use Rattle.plans.proofs.Decide.{some_in, in_some, or_cases, or_left, or_right}
 use Rattle.locks.specs.Places.{place_of}
-use Rattle.locks.specs.Works.{Worked as LockWorked}
+use Rattle.locks.specs.Works.{LockWorked}
 use Rattle.solver.specs.declared.Entry.{Entry}
 use Rattle.solver.specs.declared.Entry.TheVariants.{None as NoEntry, There, Work}
 use Rattle.solver.specs.Policy.{World}
 use Rattle.histories.specs.declared.Command.{Command}
 use Rattle.histories.specs.declared.Command.TheVariants.{Quote, Ask, Step, Close}
 use Rattle.histories.specs.Calls.{At, Rule, refusal, offered, cost_at, Passes, Took, quoted, granted, worked, closed, refused}
-use Rattle.histories.specs.Calls.{Answer as Told}
+use Rattle.histories.specs.Calls.{ExactAnswer}
 use Rattle.histories.proofs.Basics.{some_inj, some_none}
 use Rattle.control.specs.declared.answer.Reply.TheVariants.{Quoted, Granted, Worked, Closed}
 use Rattle.control.specs.declared.refusal.Refusal.{Refusal}
@@ -290,38 +290,38 @@ module _ (w : World) (cs : List ℕ) (M : Model) where
 -- ── what it shows ──
 
 -- answers by their costs, their moves and their numbers; and an answer anew from these and its kind
-abbrev cost_of : Told → List ℕ
+abbrev cost_of : ExactAnswer → List ℕ
 cost_of (quoted f) = f
 cost_of (granted f) = f
 cost_of r = []
 
-abbrev move_of : Told → Move
+abbrev move_of : ExactAnswer → Move
 move_of (worked m) = m
 move_of r = no_move
 
-abbrev number_of : Told → ℕ
+abbrev number_of : ExactAnswer → ℕ
 number_of (closed s) = s
 number_of (refused n) = n
 number_of r = 0
 
-abbrev anew : ℕ → List ℕ → Move → ℕ → Told
+abbrev anew : ℕ → List ℕ → Move → ℕ → ExactAnswer
 anew zero f m n = quoted f
 anew (suc zero) f m n = granted f
 anew (suc (suc zero)) f m n = worked m
 anew (suc (suc (suc zero))) f m n = closed n
 anew (suc (suc (suc (suc k)))) f m n = refused n
 
-same_anew : (r : Told) → anew (sort r) (cost_of r) (move_of r) (number_of r) ≡ r
+same_anew : (r : ExactAnswer) → anew (sort r) (cost_of r) (move_of r) (number_of r) ≡ r
 same_anew (quoted f) = refl
 same_anew (granted f) = refl
 same_anew (worked m) = refl
 same_anew (closed s) = refl
 same_anew (refused n) = refl
 
-abbrev pub same_told : Told → Told → Bool
+abbrev pub same_told : ExactAnswer → ExactAnswer → Bool
 same_told a b = eqb (sort a) (sort b) && (same_numbers (cost_of a) (cost_of b) && (same_move (move_of a) (move_of b) && eqb (number_of a) (number_of b)))
 
-told_is : (a b : Told) → sort a ≡ sort b → cost_of a ≡ cost_of b → move_of a ≡ move_of b → number_of a ≡ number_of b → a ≡ b
+told_is : (a b : ExactAnswer) → sort a ≡ sort b → cost_of a ≡ cost_of b → move_of a ≡ move_of b → number_of a ≡ number_of b → a ≡ b
 told_is a b p q r s =
     sym (same_anew a)
     ∙ ap (λ n. anew n (cost_of a) (move_of a) (number_of a)) p
@@ -330,7 +330,7 @@ told_is a b p q r s =
     ∙ ap (λ n. anew (sort b) (cost_of b) (move_of b) n) s
     ∙ same_anew b
 
-pub tolds_tell : (a b : Told) → (same_told a b ≡ true) ↔ (a ≡ b)
+pub tolds_tell : (a b : ExactAnswer) → (same_told a b ≡ true) ↔ (a ≡ b)
 tolds_tell a b =
     let last = both (same_move (move_of a) (move_of b)) (eqb (number_of a) (number_of b)) (same_moves (move_of a) (move_of b)) (equal (number_of a) (number_of b)) in
     let parts =
@@ -340,14 +340,14 @@ tolds_tell a b =
       λ q. parts.1 (ap sort q, (ap cost_of q, (ap move_of q, ap number_of q))),
     )
 
-abbrev pub shows_test : Answer (List ℕ) → Told → Bool
+abbrev pub shows_test : Answer (List ℕ) → ExactAnswer → Bool
 shows_test (Ok (Quoted x)) t = same_told t (quoted x)
 shows_test (Ok (Granted x)) t = same_told t (granted x)
 shows_test (Ok (Worked o)) t = same_told t (worked (move_of t)) && eqb (move_of t).operation o
 shows_test (Ok (Closed s)) t = same_told t (closed s)
 shows_test (Err r) t = same_told t (refused (refusal_number r))
 
-pub shows_decided : (r : Answer (List ℕ)) (t : Told) → (shows_test r t ≡ true) ↔ Shows as_given r t
+pub shows_decided : (r : Answer (List ℕ)) (t : ExactAnswer) → (shows_test r t ≡ true) ↔ Shows as_given r t
 shows_decided (Ok (Quoted x)) t = tolds_tell t (quoted x)
 shows_decided (Ok (Granted x)) t = tolds_tell t (granted x)
 shows_decided (Ok (Worked o)) t = (
@@ -363,14 +363,14 @@ shows_decided (Err r) t = tolds_tell t (refused (refusal_number r))
 -- ── what is one of a history ──
 
 module _ (w : World) (a : At) (k : Command) (b : At) where
-  took_as : (s t : Told) → t ≡ s → Took w a k t b → took_test w a k s b ≡ true
-  took_as s t q h = (took_decided w a k s b).1 (subst (λ (x : Told). Took w a k x b) q h)
+  took_as : (s t : ExactAnswer) → t ≡ s → Took w a k t b → took_test w a k s b ≡ true
+  took_as s t q h = (took_decided w a k s b).1 (subst (λ (x : ExactAnswer). Took w a k x b) q h)
 
   abbrev pub did_test : Answer (List ℕ) → Bool
   did_test (Err r) = took_test w a k (refused (refusal_number r)) b
   did_test (Ok (Quoted x)) = took_test w a k (quoted x) b
   did_test (Ok (Granted x)) = took_test w a k (granted x) b
-  did_test (Ok (Worked o)) = some (λ (m : Move). eqb m.operation o && took_test w a k (worked m) b) w.domain.moves
+  did_test (Ok (Worked o)) = any_of (λ (m : Move). eqb m.operation o && took_test w a k (worked m) b) w.domain.moves
   did_test (Ok (Closed s)) = took_test w a k (closed s) b
 
   pub did_decided : (r : Answer (List ℕ)) → (did_test r ≡ true) ↔ Did as_given w a k r b
@@ -391,9 +391,9 @@ module _ (w : World) (a : At) (k : Command) (b : At) where
       test : Move → Bool
       test m = eqb m.operation o && took_test w a k (worked m) b
 
-      made : (t : Told) (m : Move) → t ≡ worked m → m.operation ≡ o → Took w a k t b → some test w.domain.moves ≡ true
+      made : (t : ExactAnswer) (m : Move) → t ≡ worked m → m.operation ≡ o → Took w a k t b → any_of test w.domain.moves ≡ true
       made t m q p h =
-          let u : Took w a k (worked m) b = subst (λ (x : Told). Took w a k x b) q h in
+          let u : Took w a k (worked m) b = subst (λ (x : ExactAnswer). Took w a k x b) q h in
           in_some test m w.domain.moves u.3.4.0
           ((and-eq-true_iff (eqb m.operation o) (took_test w a k (worked m) b)).1 ((equal m.operation o).1 p, (took_decided w a k (worked m) b).1 u))
   did_decided (Ok (Closed s)) = (λ e. (closed s, (refl, (took_decided w a k (closed s) b).0 e)), λ t. took_as (closed s) t.0 t.1.0 t.1.1)

@@ -14,7 +14,7 @@ use Rattle.solver.proofs.KeptSets.{kept_largest, kept_simulates}
 use Rattle.histories.specs.declared.Command.{Command}
 use Rattle.histories.specs.declared.Command.TheVariants.{Quote, Ask}
 use Rattle.histories.specs.Calls.{At, Event, History, Took, quoted, refused, refusal, open_rules, start_at}
-use Rattle.histories.specs.Calls.{Answer as Answered}
+use Rattle.histories.specs.Calls.{ExactAnswer}
 use Rattle.histories.specs.Promise.{Promised, Opening}
 use Rattle.histories.proofs.Basics.{some_inj, some_none}
 use Rattle.histories.proofs.Holds.{promise_holds, opening_holds}
@@ -159,7 +159,7 @@ mistold o = go o.history o.end o.asked o.answered o.chained
     go [] b e s c = s
     go (x ∷ h) b e s c =
         no_such x.after (subst (λ (k : Command). Took w (start_at 0 (Some 0)) k (quoted nought) x.after) (ap first_of e)
-        (subst (λ (r : Answered). Took w (start_at 0 (Some 0)) x.command r x.after) s.0 c.1))
+        (subst (λ (r : ExactAnswer). Took w (start_at 0 (Some 0)) x.command r x.after) s.0 c.1))
 
 -- ── the port before any load ──
 

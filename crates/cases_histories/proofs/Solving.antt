@@ -10,16 +10,16 @@ use Rattle.plans.proofs.Flags.{every_at, at_every}
 use Rattle.plans.proofs.Index.{is_false}
 use Rattle.costs.specs.Models.{minutes_model}
 use Rattle.rounds.specs.Verdicts.{RankRows}
-use Rattle.search.specs.Answers.{Answer}
+use Rattle.search.specs.Answers.{RightChoice}
 use Rattle.search.specs.declared.Choice.{Choice}
 use Rattle.search.specs.declared.Choice.TheVariants.{None as NoChoice, There as Here, Work as Choose}
 use Rattle.solver.specs.declared.Entry.{Entry}
 use Rattle.solver.specs.declared.Summary.{Summary}
 use Rattle.solver.specs.declared.SolveError.{SolveError}
 use Rattle.solver.specs.declared.SolveError.TheVariants.{Short, Memory}
-use Rattle.solver.specs.Choices.{entry_of, exact_of, ChosenRow, Chosen}
+use Rattle.solver.specs.Choices.{choice_entry, exact_of, ChosenRow, Chosen}
 use Rattle.solver.specs.Policy.{Safe, Right, Solved}
-use Rattle.solver.specs.Solving.{Worked, Filled, Tabled, Untouched, Outcome, zeros, largest_of, enough}
+use Rattle.solver.specs.Solving.{RightSolution, Filled, Tabled, Untouched, Outcome, zeros, largest_of, enough}
 use Rattle.solver.proofs.Policies.{attains_safe, safe_attains, answer_right}
 use Rattle.cases_plans.proofs.Rows.{alike, right, all_say}
 use Rattle.cases_plans.proofs.Tests.{both, equal}
@@ -57,7 +57,7 @@ module _ (q : ℕ) (l : q < 3) where
   of_safe = safe_attains w formed q keep goal (λ c m. refl) goals
 
   -- a right entry is what a search may answer
-  right_answer : (c : ℕ) → c < 3 → (x : Choice (List ℕ)) → Right w q c (entry_of x) (own x) → Answer minutes_model as_given sluice.moves keep goal c x
+  right_answer : (c : ℕ) → c < 3 → (x : Choice (List ℕ)) → Right w q c (choice_entry x) (own x) → RightChoice minutes_model as_given sluice.moves keep goal c x
   right_answer c m NoChoice r = λ plan a. r.0 plan (to_safe plan c m a)
   right_answer c m Here r = ((of_safe stop c m r.0).1 [] tt).1
   right_answer c m (Choose o f) r = (
@@ -72,7 +72,7 @@ module _ (q : ℕ) (l : q < 3) where
 
   -- a row of choices, each right
   abbrev row_test : (ℕ → Choice (List ℕ)) → Bool
-  row_test row = every (λ c. right_test q c (entry_of (row c)) (own (row c))) 3
+  row_test row = every (λ c. right_test q c (choice_entry (row c)) (own (row c))) 3
 
   pub row_decided : (row : ℕ → Choice (List ℕ)) → (row_test row ≡ true) ↔ ChosenRow minutes_model as_given sluice q row
   row_decided row = (
@@ -81,20 +81,20 @@ module _ (q : ℕ) (l : q < 3) where
       goal,
       λ c m. refl,
       goals,
-      λ c m. right_answer c m (row c) ((right_decided q c l m (entry_of (row c)) (own (row c))).0 (every_at each_test 3 e c m)),
+      λ c m. right_answer c m (row c) ((right_decided q c l m (choice_entry (row c)) (own (row c))).0 (every_at each_test 3 e c m)),
     ),
-    λ t. at_every each_test 3 (λ c m. (right_decided q c l m (entry_of (row c)) (own (row c))).1
+    λ t. at_every each_test 3 (λ c m. (right_decided q c l m (choice_entry (row c)) (own (row c))).1
         (answer_right w formed q t.0 t.1 t.2 t.3 as_given c m (row c) (t.4 c m))),
   )
     where
       each_test : ℕ → Bool
-      each_test c = right_test q c (entry_of (row c)) (own (row c))
+      each_test c = right_test q c (choice_entry (row c)) (own (row c))
 
 abbrev part : List (Choice (List ℕ)) → ℕ → ℕ → Choice (List ℕ)
 part cs q c = choice_at cs (q * 3 + c)
 
 abbrev rights_test : ℕ → (ℕ → Choice (List ℕ)) → Bool
-rights_test q row = every (λ c. right_test q c (entry_of (row c)) (own (row c))) 3
+rights_test q row = every (λ c. right_test q c (choice_entry (row c)) (own (row c))) 3
 
 abbrev chosen_test : List (Choice (List ℕ)) → Bool
 chosen_test cs = eqb (length cs) 9 && every (λ q. rights_test q (part cs q)) 3
@@ -115,7 +115,7 @@ chosen_decided cs = (
 abbrev worked_test : List (Choice (List ℕ)) → List ℕ → Bool
 worked_test cs rs = (eqb (length rs) 12 && ranks_test [] [] rs) && chosen_test cs
 
-worked_decided : (cs : List (Choice (List ℕ))) (rs : List ℕ) → (worked_test cs rs ≡ true) ↔ Worked minutes_model as_given sluice cs rs
+worked_decided : (cs : List (Choice (List ℕ))) (rs : List ℕ) → (worked_test cs rs ≡ true) ↔ RightSolution minutes_model as_given sluice cs rs
 worked_decided cs rs = (
   λ e.
       let h = (and-eq-true_iff (eqb (length rs) 12 && ranks_test [] [] rs) (chosen_test cs)).0 e in

@@ -8,7 +8,7 @@ use Rattle.solver.specs.declared.Entry.TheVariants.{Work}
 use Rattle.solver.specs.Policy.{World}
 use Rattle.histories.specs.declared.Command.{Command}
 use Rattle.histories.specs.declared.Command.TheVariants.{Quote, Ask, Step, Close}
-use Rattle.histories.specs.Calls.{At, Answer, quoted, granted, worked, closed, refused, refusal, cost_at, rules, Passes, Took, Event, History, open_rules, Opens}
+use Rattle.histories.specs.Calls.{At, ExactAnswer, quoted, granted, worked, closed, refused, refusal, cost_at, rules, Passes, Took, Event, History, open_rules, Opens}
 use Rattle.histories.specs.Errands.{request_of}
 use Rattle.histories.specs.Promise.{Tells}
 use Rattle.histories.proofs.Basics.{some_inj}
@@ -106,7 +106,7 @@ makes_decided w q (Some c) m = (
     made : (d o : ℕ) → c ≡ d → w.entry q d ≡ Work o → Can w.domain.moves d o m → (w.entry q c ≡ Work m.operation) × Can w.domain.moves c m.operation m
     made d o e f can = (ap (w.entry q) e ∙ f ∙ ap Work (sym can.2), (can.0, can.1 ∙ sym e, refl))
 
-abbrev pub took_test : World → At → Command → Answer → At → Bool
+abbrev pub took_test : World → At → Command → ExactAnswer → At → Bool
 took_test w a k (refused n) b = first_test w a k (Some n) && same_at b a
 took_test w a k (quoted f) b = quoting (λ q. first_test w a (Quote q) None && (same_numbers f (cost_at w q a.place) && same_at b a)) k
 took_test w a k (granted f) b =
@@ -123,7 +123,7 @@ took_test w a k (closed s) b =
 pub three : {P Q R : Type 0} (a b c : Bool) → (a ≡ true) ↔ P → (b ≡ true) ↔ Q → (c ≡ true) ↔ R → ((a && (b && c)) ≡ true) ↔ (P × (Q × R))
 three a b c p q r = both a (b && c) p (both b c q r)
 
-pub took_decided : (w : World) (a : At) (k : Command) (r : Answer) (b : At) → (took_test w a k r b ≡ true) ↔ Took w a k r b
+pub took_decided : (w : World) (a : At) (k : Command) (r : ExactAnswer) (b : At) → (took_test w a k r b ≡ true) ↔ Took w a k r b
 took_decided w a k (refused n) b = both (first_test w a k (Some n)) (same_at b a) (first_decided w a k (Some n)) (ats_tell b a)
 took_decided w a k (quoted f) b = (
   λ e. let t = (quoting_iff test k).0 e in let h = (parts t.0).0 t.1.1 in (t.0, (t.1.0, h.0, h.1.0, h.1.1)),
@@ -214,28 +214,28 @@ opens_test w s p = same_place (refusal (open_rules w s p)) None
 pub opens_decided : (w : World) (s : ℕ) (p : Option ℕ) → (opens_test w s p ≡ true) ↔ Opens w s p
 opens_decided w s p = places_tell (refusal (open_rules w s p)) None
 
-abbrev pub tells_test : Answer → List ℕ → Bool
+abbrev pub tells_test : ExactAnswer → List ℕ → Bool
 tells_test (quoted g) f = same_numbers g f
 tells_test (granted g) f = same_numbers g f
 tells_test r f = false
 
 -- answers by their kinds, and by the cost that they tell
-abbrev pub sort : Answer → ℕ
+abbrev pub sort : ExactAnswer → ℕ
 sort (quoted f) = 0
 sort (granted f) = 1
 sort (worked m) = 2
 sort (closed s) = 3
 sort (refused n) = 4
 
-abbrev told : Answer → List ℕ
+abbrev told : ExactAnswer → List ℕ
 told (quoted f) = f
 told (granted f) = f
 told r = []
 
-pub unlike : {P : Type 0} (r t : Answer) → r ≡ t → eqb (sort r) (sort t) ≡ false → P
+pub unlike : {P : Type 0} (r t : ExactAnswer) → r ≡ t → eqb (sort r) (sort t) ≡ false → P
 unlike r t q f = absurd (false≢true (sym f ∙ (equal (sort r) (sort t)).1 (ap sort q)))
 
-pub tells_decided : (r : Answer) (f : List ℕ) → (tells_test r f ≡ true) ↔ Tells r f
+pub tells_decided : (r : ExactAnswer) (f : List ℕ) → (tells_test r f ≡ true) ↔ Tells r f
 tells_decided (quoted g) f = (
   λ e. inl (ap quoted ((numbers_tell g f).0 e)),
   λ t. ⊎_elim (λ q. (numbers_tell g f).1 (ap told q)) (λ q. unlike (quoted g) (granted f) q refl) t,

@@ -4,7 +4,7 @@ use Rattle.port.specs.Model.{Model}
 use Rattle.histories.specs.declared.Command.{Command}
 use Rattle.histories.specs.declared.Command.TheVariants.{Quote, Ask, Step, Close}
 use Rattle.histories.specs.Calls.{At, Rule, quoted, granted, worked, closed, refused}
-use Rattle.histories.specs.Calls.{Answer as Told}
+use Rattle.histories.specs.Calls.{ExactAnswer}
 use Rattle.control.specs.declared.answer.Reply.TheVariants.{Quoted, Granted, Worked, Closed}
 use Rattle.control.specs.declared.refusal.Refusal.{Refusal}
 use Rattle.control.specs.declared.refusal.Refusal.TheVariants.{Short, AlreadyOut, NotOffered, NoCondition, Dropped, NoPlan, Arrived, NotArrived, NotOut, Stuck}
@@ -78,7 +78,7 @@ pub data Claim : Type 0 where
   balks : Model → State → Command → Refusal → Claim
   does : Model → State → Command → Answer (List ℕ) → State → Claim
   -- an answer stands for one of a history, and a call is one of a history
-  shows : Answer (List ℕ) → Told → Claim
+  shows : Answer (List ℕ) → ExactAnswer → Claim
   did : At → Command → Answer (List ℕ) → At → Claim
 
 abbrev pub Means : Claim → Type 0

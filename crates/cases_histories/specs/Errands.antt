@@ -4,7 +4,7 @@ use Rattle.port.specs.declared.Move.{Move}
 use Rattle.costs.specs.Models.{moves_model, minutes_model}
 use Rattle.histories.specs.declared.Command.{Command}
 use Rattle.histories.specs.declared.Command.TheVariants.{Quote, Ask, Step, Close}
-use Rattle.histories.specs.Calls.{At, Answer, quoted, granted, worked, closed, refused, Event}
+use Rattle.histories.specs.Calls.{At, ExactAnswer, quoted, granted, worked, closed, refused, Event}
 use Rattle.histories.specs.Errands.{Errand, request_of, moved, ended, noted, errands_after, errands, onto, left}
 use Rattle.cases_plans.specs.Rows.{Row, holds, fails, AllSay}
 use Rattle.cases_histories.specs.Values.{Claim, number, numbers, went, Means}
@@ -14,7 +14,7 @@ use Rattle.cases_histories.specs.Calls.{at}
 abbrev pub errand : ℕ → List ℕ → List Move → Bool → Errand
 errand q f ms out = record { request = q; quote = f; moves = ms; out = out }
 
-abbrev pub event : At → Command → Answer → At → Event
+abbrev pub event : At → Command → ExactAnswer → At → Event
 event a k r b = record { before = a; command = k; answer = r; after = b }
 
 -- a new grant of request 0, and the same after a move; an older one, which is closed

@@ -4,7 +4,7 @@ use Rattle.solver.specs.declared.Entry.TheVariants.{There, Work}
 use Rattle.solver.specs.Policy.{World}
 use Rattle.histories.specs.declared.Command.{Command}
 use Rattle.histories.specs.declared.Command.TheVariants.{Quote, Ask, Step, Close}
-use Rattle.histories.specs.Calls.{At, Answer, quoted, granted, worked, closed, refused, Passes, Took, Event, History, Opens}
+use Rattle.histories.specs.Calls.{At, ExactAnswer, quoted, granted, worked, closed, refused, Passes, Took, Event, History, Opens}
 use Rattle.histories.specs.Promise.{Tells}
 use Rattle.cases_plans.specs.Rows.{Row, holds, fails, AllSay}
 use Rattle.cases_histories.specs.Sluice.{move, fill, flood, lift, hoist, two, nought, costs, ranks, with_tables, w}
@@ -15,12 +15,12 @@ pub data Claim : Type 0 where
   -- no rule refuses the command
   passes : World → At → Command → Claim
   -- the command may be answered so, and the call may end there
-  took : World → At → Command → Answer → At → Claim
+  took : World → At → Command → ExactAnswer → At → Claim
   history : World → At → List Event → At → Claim
   -- an opening at a stage over a lock that stands there is accepted
   opens : World → ℕ → Option ℕ → Claim
   -- the answer tells the quote
-  tells : Answer → List ℕ → Claim
+  tells : ExactAnswer → List ℕ → Claim
 
 abbrev pub Means : Claim → Type 0
 Means (passes v a k) = Passes v a k

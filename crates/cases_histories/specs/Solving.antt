@@ -9,7 +9,7 @@ use Rattle.solver.specs.declared.Summary.{Summary}
 use Rattle.solver.specs.declared.SolveError.{SolveError}
 use Rattle.solver.specs.declared.SolveError.TheVariants.{Short, Memory}
 use Rattle.solver.specs.Choices.{ChosenRow, Chosen}
-use Rattle.solver.specs.Solving.{Worked, Filled, Tabled, Untouched, Outcome}
+use Rattle.solver.specs.Solving.{RightSolution, Filled, Tabled, Untouched, Outcome}
 use Rattle.cases_plans.specs.Rows.{Row, holds, fails, AllSay}
 use Rattle.cases_histories.specs.Sluice.{sluice, two, nought, entries, costs, ranks, as_given}
 
@@ -44,7 +44,7 @@ choice_at cs c = slice_index_or cs c NoChoice
 abbrev pub Means : Claim → Type 0
 Means (chosen_row q cs) = ChosenRow minutes_model as_given sluice q (choice_at cs)
 Means (chosen cs) = Chosen minutes_model as_given sluice cs
-Means (worked cs rs) = Worked minutes_model as_given sluice cs rs
+Means (worked cs rs) = RightSolution minutes_model as_given sluice cs rs
 Means (filled at b b' s) = Filled sluice minutes_model as_given at b.entries b'.entries b.costs b'.costs b.ranks b'.ranks s
 Means (untouched b b') = Untouched b.entries b'.entries b.costs b'.costs b.ranks b'.ranks
 Means (outcome at b b' r) = Outcome sluice minutes_model as_given at b.entries b'.entries b.costs b'.costs b.ranks b'.ranks r
@@ -109,7 +109,7 @@ rows =
     fails (chosen (Here ∷ all)) ∷
     fails (chosen more) ∷
     fails (chosen (Choose 2 (two 3 1) ∷ Here ∷ Here ∷ Here ∷ NoChoice ∷ NoChoice ∷ Here ∷ NoChoice ∷ NoChoice ∷ [])) ∷
-    -- Worked: with the ranks of all pairs
+    -- RightSolution: with the ranks of all pairs
     holds (worked all ranks) ∷
     fails (worked all (0 ∷ ranks)) ∷
     fails (worked all new_ranks) ∷

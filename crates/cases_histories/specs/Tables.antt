@@ -7,8 +7,8 @@ use Rattle.solver.specs.declared.Entry.{Entry}
 use Rattle.solver.specs.declared.Entry.TheVariants.{None as NoEntry, There, Work}
 use Rattle.solver.specs.declared.SolveError.TheVariants.{Short, Memory}
 use Rattle.solver.specs.Policy.{World, entry_byte, entry_text, kept_set, world_of}
-use Rattle.solver.specs.Solving.{refusal_number, number_text, refusal_text, start_of, zeros, largest_of, places_of, pairs_of, enough}
-use Rattle.solver.specs.Choices.{entry_of, exact_of}
+use Rattle.solver.specs.Solving.{solve_error_number, number_text, solve_error_text, start_of, zeros, largest_of, places_of, pairs_of, enough}
+use Rattle.solver.specs.Choices.{choice_entry, exact_of}
 use Rattle.cases_plans.specs.Rows.{Row, holds, fails, AllSay}
 use Rattle.cases_histories.specs.Values.{Claim, number, flag, numbers, place, entry, Means}
 use Rattle.cases_histories.specs.Sluice.{leave, sluice, two, nought, entries, as_given, w, port}
@@ -75,19 +75,19 @@ rows =
     holds (number w.model.columns 2) ∷
     fails (number counted.model.columns 2) ∷
     fails (number w.domain.conditions 4) ∷
-    -- refusal_number, number_text, refusal_text: a short buffer is refusal 12, and want of memory has no number
-    holds (place (refusal_number Short) (Some 12)) ∷
-    holds (place (refusal_number Memory) None) ∷
-    fails (place (refusal_number Short) None) ∷
-    fails (place (refusal_number Memory) (Some 12)) ∷
+    -- solve_error_number, number_text, solve_error_text: a short buffer is refusal 12, and want of memory has no number
+    holds (place (solve_error_number Short) (Some 12)) ∷
+    holds (place (solve_error_number Memory) None) ∷
+    fails (place (solve_error_number Short) None) ∷
+    fails (place (solve_error_number Memory) (Some 12)) ∷
     holds (numbers (number_text (Some 30)) (codes "refused 30")) ∷
     holds (numbers (number_text None) (codes "no memory")) ∷
     fails (numbers (number_text (Some 30)) (codes "refused 3")) ∷
     fails (numbers (number_text (Some 0)) (codes "no memory")) ∷
-    holds (numbers (refusal_text Short) (codes "refused 12")) ∷
-    holds (numbers (refusal_text Memory) (codes "no memory")) ∷
-    fails (numbers (refusal_text Short) (codes "no memory")) ∷
-    fails (numbers (refusal_text Memory) (codes "refused 12")) ∷
+    holds (numbers (solve_error_text Short) (codes "refused 12")) ∷
+    holds (numbers (solve_error_text Memory) (codes "no memory")) ∷
+    fails (numbers (solve_error_text Short) (codes "no memory")) ∷
+    fails (numbers (solve_error_text Memory) (codes "refused 12")) ∷
     -- start_of: by the start stage, then the start condition
     holds (number (start_of port) 5) ∷
     holds (number (start_of (record port { conditions = 0 ∷ 1 ∷ 2 ∷ 3 ∷ [] })) 6) ∷
@@ -118,12 +118,12 @@ rows =
     fails (flag (enough small (There ∷ There ∷ []) three_costs six) true) ∷
     fails (flag (enough small three (nought ∷ nought ∷ []) six) true) ∷
     fails (flag (enough small three three_costs (0 ∷ 0 ∷ 0 ∷ 0 ∷ 0 ∷ [])) true) ∷
-    -- entry_of, exact_of: of a choice, the entry, and the exact cost, which is none but where an operation is worked
-    holds (entry (entry_of (Choose 2 (two 3 1))) (Work 2)) ∷
-    holds (entry (entry_of {A = List ℕ} Here) There) ∷
-    holds (entry (entry_of {A = List ℕ} NoChoice) NoEntry) ∷
-    fails (entry (entry_of (Choose 2 (two 3 1))) (Work 3)) ∷
-    fails (entry (entry_of {A = List ℕ} NoChoice) There) ∷
+    -- choice_entry, exact_of: of a choice, the entry, and the exact cost, which is none but where an operation is worked
+    holds (entry (choice_entry (Choose 2 (two 3 1))) (Work 2)) ∷
+    holds (entry (choice_entry {A = List ℕ} Here) There) ∷
+    holds (entry (choice_entry {A = List ℕ} NoChoice) NoEntry) ∷
+    fails (entry (choice_entry (Choose 2 (two 3 1))) (Work 3)) ∷
+    fails (entry (choice_entry {A = List ℕ} NoChoice) There) ∷
     holds (numbers (exact_of minutes_model as_given (Choose 2 (two 3 1))) (two 3 1)) ∷
     holds (numbers (exact_of minutes_model as_given Here) nought) ∷
     holds (numbers (exact_of moves_model as_given NoChoice) (0 ∷ [])) ∷

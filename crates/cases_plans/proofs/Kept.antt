@@ -5,7 +5,7 @@ use Rattle.port.specs.Limits.{In}
 use Rattle.port.specs.declared.Move.{Move}
 use Rattle.plans.specs.Flags.{every}
 use Rattle.plans.specs.Plans.{Plan, stop, work, Can, IsRun, end}
-use Rattle.plans.specs.Reach.{each, serves, left}
+use Rattle.plans.specs.Reach.{each, serves, left_after}
 use Rattle.plans.specs.Simulation.{Task, Domain, WellFormed, Serves, InRange, Holds, Simulation, Kept, Rank}
 use Rattle.plans.proofs.Decide.{some_in, in_some, each_in, in_each, serves_decided, left_iterates, row_kept}
 use Rattle.plans.proofs.Flags.{every_at, at_every}
@@ -95,11 +95,11 @@ abbrev pub simulates_test : Domain → List Pair → Bool
 simulates_test D ps = each (passes D ps) ps
 
 abbrev pub kept_test : Domain → ℕ → ℕ → Bool
-kept_test D s c = range_test D s c && left D (D.stages * D.conditions) s c
+kept_test D s c = range_test D s c && left_after D (D.stages * D.conditions) s c
 
 abbrev pub rank_test : Domain → ℕ → ℕ → ℕ → Bool
 rank_test D s c zero = kept_test D s c
-rank_test D s c (suc k) = left D k s c && not (left D (suc k) s c)
+rank_test D s c (suc k) = left_after D k s c && not (left_after D (suc k) s c)
 
 module _ (D : Domain) (wf : WellFormed D) where
   module _ (ps : List Pair) where
@@ -138,12 +138,12 @@ module _ (D : Domain) (wf : WellFormed D) where
   pub kept_decided : (s c : ℕ) → (kept_test D s c ≡ true) ↔ Kept D s c
   kept_decided s c = (
     λ e.
-        let h = (and-eq-true_iff (range_test D s c) (left D (D.stages * D.conditions) s c)).0 e in
+        let h = (and-eq-true_iff (range_test D s c) (left_after D (D.stages * D.conditions) s c)).0 e in
         let r = (range_decided D s c).0 h.0 in
         row_kept D wf s c r ((left_serves D wf (D.stages * D.conditions) s c r).0 h.1),
     λ k.
         let r = kept_ranged D s c k in
-        (and-eq-true_iff (range_test D s c) (left D (D.stages * D.conditions) s c)).1 (
+        (and-eq-true_iff (range_test D s c) (left_after D (D.stages * D.conditions) s c)).1 (
           (range_decided D s c).1 r,
           (left_serves D wf (D.stages * D.conditions) s c r).1 (kept_row D s c k (D.stages * D.conditions)),
         ),
@@ -153,11 +153,11 @@ module _ (D : Domain) (wf : WellFormed D) where
   rank_decided s c zero r = (λ e. kept_rank D s c ((kept_decided s c).0 e), λ a. (kept_decided s c).1 a.0)
   rank_decided s c (suc k) r = (
     λ e.
-        let h = (and-eq-true_iff (left D k s c) (not (left D (suc k) s c))).0 e in
-        dropped_rank D wf (left D) (left_iterates D wf) k s c r h.0 (not_true (left D (suc k) s c) h.1),
+        let h = (and-eq-true_iff (left_after D k s c) (not (left_after D (suc k) s c))).0 e in
+        dropped_rank D wf (left_after D) (left_iterates D wf) k s c r h.0 (not_true (left_after D (suc k) s c) h.1),
     λ a.
-        (and-eq-true_iff (left D k s c) (not (left D (suc k) s c))).1 (
+        (and-eq-true_iff (left_after D k s c) (not (left_after D (suc k) s c))).1 (
           (left_serves D wf k s c r).1 (a.1 k (omega arith)),
-          ap not (is_false (left D (suc k) s c) (λ e. a.2 (suc k) (omega arith) ((left_serves D wf (suc k) s c r).0 e))),
+          ap not (is_false (left_after D (suc k) s c) (λ e. a.2 (suc k) (omega arith) ((left_serves D wf (suc k) s c r).0 e))),
         ),
   )

@@ -3,7 +3,7 @@ use Rattle.std.proofs.Common.{◌≡◌, ℕ, suc, ◌<◌, Bool, true, false, n
 use mathlib.Core.Bool.{and-eq-true_iff}
 use Rattle.plans.specs.Flags.{every}
 use Rattle.plans.specs.Iterate.{Iterates, Stable}
-use Rattle.plans.specs.Reach.{Closed, each, steps, attains, serves, left}
+use Rattle.plans.specs.Reach.{Closed, each, steps, attains, serves, left_after}
 use Rattle.plans.specs.Simulation.{Domain, WellFormed, InRange}
 use Rattle.plans.proofs.Decide.{alike as agree, attains_iff, steps_iff, implies, serves_decided, serves_same}
 use Rattle.plans.proofs.Flags.{every_at, at_every}
@@ -90,12 +90,12 @@ computed_say = values_say computed all_told
 -- ── the iteration ──
 
 -- sets that are those left, within the domain, iterate
-as_left : (W : ℕ → ℕ → ℕ → Bool) → ((k s c : ℕ) → InRange basin s c → W k s c ≡ left basin k s c) → Iterates basin W
+as_left : (W : ℕ → ℕ → ℕ → Bool) → ((k s c : ℕ) → InRange basin s c → W k s c ≡ left_after basin k s c) → Iterates basin W
 as_left W same = record {
   start = λ s c r. same 0 s c r;
   step = λ k s c r.
       let turn : W (suc k) s c ≡ serves basin (W k) s c =
-      same (suc k) s c r ∙ serves_same basin basin_formed (left basin k) (W k) (λ t d q. sym (same k t d q)) s c r.1 in
+      same (suc k) s c r ∙ serves_same basin basin_formed (left_after basin k) (W k) (λ t d q. sym (same k t d q)) s c r.1 in
       let served = serves_decided basin basin_formed (W k) s c r.1 in
       (λ h. served.0 (sym turn ∙ h), λ h. turn ∙ served.1 h);
 }
@@ -112,13 +112,13 @@ no_step W k s c r e it =
 
 pub iterations_say : IterationsSay
 iterations_say = each_says (Iterates basin) iterations (
-    as_left (left basin) (λ k s c r. refl)
-    ⨾ as_left (λ k s c. left basin k s c || eqb s 4)
-    (λ k s c r. outside (left basin k s c) (eqb s 4) (ne_eqb s 4 (λ q. let l = r.0 in omega arith)))
+    as_left (left_after basin) (λ k s c r. refl)
+    ⨾ as_left (λ k s c. left_after basin k s c || eqb s 4)
+    (λ k s c r. outside (left_after basin k s c) (eqb s 4) (ne_eqb s 4 (λ q. let l = r.0 in omega arith)))
     ⨾ no_step (λ k s c. true) 0 1 2 (omega arith, omega arith) refl
     ⨾ no_start (λ k s c. false) 0 0 (omega arith, omega arith) refl
-    ⨾ no_start (λ k s c. left basin (suc k) s c) 1 2 (omega arith, omega arith) refl
-    ⨾ no_step (λ k s c. left jamming k s c) 1 0 0 (omega arith, omega arith) refl
+    ⨾ no_start (λ k s c. left_after basin (suc k) s c) 1 2 (omega arith, omega arith) refl
+    ⨾ no_step (λ k s c. left_after jamming k s c) 1 0 0 (omega arith, omega arith) refl
     ⨾ tt
     )
   where

@@ -1,7 +1,7 @@
 -- The rows of simulations and ranks, by one test.
 use Rattle.std.proofs.Common.{◌≡◌, ℕ, Bool, true, ◌&&◌, ltb, ◌↔◌, refl, ltb-true}
 use mathlib.Core.Bool.{and-eq-true_iff}
-use Rattle.plans.specs.Reach.{each, left}
+use Rattle.plans.specs.Reach.{each, left_after}
 use Rattle.plans.specs.Reach as reach
 use Rattle.plans.specs.Simulation.{Domain, WellFormed, InRange}
 use Rattle.plans.proofs.Decide.{serves_decided}
@@ -29,7 +29,7 @@ test (in_range D s c) = range_test D s c
 test (has R s c) = R s c
 test (simulates D ps) = simulates_test D ps
 test (kept D s c) = kept_test D s c
-test (serves_row D k s c) = left D k s c
+test (serves_row D k s c) = left_after D k s c
 test (rank D s c k) = rank_test D s c k
 
 formed_range : (D : Domain) (s c : ℕ) → (formed_test D && range_test D s c) ≡ true → WellFormed D × InRange D s c

@@ -4,7 +4,7 @@ use mathlib.Core.Bool.{and-eq-true_iff, false≢true}
 use Rattle.port.specs.Limits.{In}
 use Rattle.port.specs.declared.Move.{Move}
 use Rattle.plans.specs.Plans.{Plan, stop, work, Within, Can, Possible, IsRun, Works, Attains}
-use Rattle.plans.specs.Reach.{some, each}
+use Rattle.plans.specs.Reach.{any_of, each}
 use Rattle.plans.proofs.Attain.{work_attains, stop_attains, after, works_kept}
 use Rattle.plans.proofs.Decide.{some_in, in_some, each_in, in_each, implies}
 use Rattle.locks.specs.Places.{fits, possible}
@@ -60,7 +60,7 @@ same_moves a b = (
 
 -- a move is one of the list
 abbrev pub listed : Move → List Move → Bool
-listed m ms = some (same_move m) ms
+listed m ms = any_of (same_move m) ms
 
 pub listed_in : (m : Move) (ms : List Move) → (listed m ms ≡ true) ↔ In m ms
 listed_in m ms = (

@@ -6,11 +6,11 @@ use Rattle.port.specs.Limits.{In, Rise}
 use Rattle.port.specs.Model.{Model}
 use Rattle.plans.specs.Flags.{every}
 use Rattle.plans.specs.Plans.{Possible}
-use Rattle.plans.specs.Reach.{some, each}
+use Rattle.plans.specs.Reach.{any_of, each}
 use Rattle.plans.proofs.Decide.{some_in, in_some, each_in, in_each, implies, or_cases, or_left, or_right}
 use Rattle.plans.proofs.Flags.{every_at, at_every}
 use Rattle.locks.specs.Places.{place_of, IsAt, Leads, possible}
-use Rattle.locks.specs.Works.{Told, Worked, outcomes, InOrder, WorkedNth, change, Before, WorkedLeast}
+use Rattle.locks.specs.Works.{TellsCondition, LockWorked, outcomes, InOrder, WorkedNth, change, Before, WorkedLeast}
 use Rattle.locks.specs.Targets.{Goes, GoesNth, GoesLeast, Nearest}
 use Rattle.locks.proofs.Outcomes.{outcome_in, outcome_of}
 use Rattle.locks.proofs.Standing.{place_is, place_none, possible_means, possible_there, told}
@@ -50,7 +50,7 @@ any_below_iff p (suc n) = (
 -- ── members ──
 
 abbrev pub among : ℕ → List ℕ → Bool
-among d ds = some (eqb d) ds
+among d ds = any_of (eqb d) ds
 
 pub among_iff : (d : ℕ) (ds : List ℕ) → (among d ds ≡ true) ↔ In d ds
 among_iff d ds = (
@@ -104,13 +104,13 @@ order_decided M c o = (
 abbrev pub told_test : Model → ℕ → Bool → Bool
 told_test M m r = alike r (is_some (place_of M.conditions m))
 
-pub told_decided : (M : Model) (m : ℕ) (r : Bool) → (told_test M m r ≡ true) ↔ Told M m r
+pub told_decided : (M : Model) (m : ℕ) (r : Bool) → (told_test M m r ≡ true) ↔ TellsCondition M m r
 told_decided M m r = (
   λ e. told M m r ((alike_iff r (is_some (place_of M.conditions m))).0 e),
   λ t. (alike_iff r (is_some (place_of M.conditions m))).1 (go (place_of M.conditions m) refl r t),
 )
   where
-    go : (p : Option ℕ) → place_of M.conditions m ≡ p → (r : Bool) → Told M m r → r ≡ is_some p
+    go : (p : Option ℕ) → place_of M.conditions m ≡ p → (r : Bool) → TellsCondition M m r → r ≡ is_some p
     go None q true t = let s = t.yes refl in absurd (place_none M.conditions m q s.0 s.1.0 s.1.1)
     go None q false t = refl
     go (Some c) q true t = refl
@@ -187,7 +187,7 @@ abbrev pub worked_test : Model → ℕ → ℕ → Bool → ℕ → Bool
 worked_test M m o true m' = reaches_test M m o m'
 worked_test M m o false m' = eqb m' m && stops_test M m o
 
-pub worked_decided : (M : Model) (m o : ℕ) (accepted : Bool) (m' : ℕ) → (worked_test M m o accepted m' ≡ true) ↔ Worked M m o accepted m'
+pub worked_decided : (M : Model) (m o : ℕ) (accepted : Bool) (m' : ℕ) → (worked_test M m o accepted m' ≡ true) ↔ LockWorked M m o accepted m'
 worked_decided M m o true m' = (
   λ e. record { accepts = λ q. (reaches_decided M m o m').0 e; refuses = λ q. absurd (true≢false q) },
   λ w. (reaches_decided M m o m').1 (w.accepts refl),

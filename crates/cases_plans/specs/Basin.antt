@@ -2,7 +2,7 @@
 use Rattle.std.specs.Prelude.{ℕ, Bool, true, false, cond, not, ◌&&◌, List, [], ◌∷◌, ◌==◌}
 use Rattle.port.specs.declared.Move.{Move}
 use Rattle.plans.specs.Plans.{Plan, stop, work}
-use Rattle.plans.specs.Reach.{some}
+use Rattle.plans.specs.Reach.{any_of}
 use Rattle.plans.specs.Simulation.{Task, Domain}
 
 abbrev pub move : ℕ → ℕ → ℕ → ℕ → Move
@@ -90,7 +90,7 @@ abbrev pub pair : ℕ → ℕ → Pair
 pair s c = record { stage = s; condition = c }
 
 abbrev pub among : List Pair → ℕ → ℕ → Bool
-among ps s c = some (λ p. s == p.stage && c == p.condition) ps
+among ps s c = any_of (λ p. s == p.stage && c == p.condition) ps
 
 abbrev pub everywhere : ℕ → ℕ → Bool
 everywhere s c = true

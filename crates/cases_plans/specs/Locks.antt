@@ -2,7 +2,7 @@
 use Rattle.std.specs.Prelude.{ℕ, Bool, true, false, cond, Some, None, Option, List, [], ◌∷◌, ◌==◌}
 use Rattle.port.specs.Model.{Model}
 use Rattle.locks.specs.Places.{next, place_of, IsAt, Leads, fits, possible}
-use Rattle.locks.specs.Works.{Told, Worked, outcomes, InOrder, WorkedNth, change, Before, WorkedLeast}
+use Rattle.locks.specs.Works.{TellsCondition, LockWorked, outcomes, InOrder, WorkedNth, change, Before, WorkedLeast}
 use Rattle.locks.specs.Targets.{Goes, GoesNth, GoesLeast, named_by, Nearest}
 use Rattle.cases_plans.specs.Rows.{Row, holds, fails, AllSay}
 use Rattle.cases_plans.specs.Values as values
@@ -96,8 +96,8 @@ abbrev pub Means : Claim → Type 0
 Means (is_at M c m) = IsAt M c m
 Means (leads M c o d) = Leads M c o d
 Means (in_order M c o) = InOrder M c o
-Means (told M m r) = Told M m r
-Means (worked M m o accepted m') = Worked M m o accepted m'
+Means (told M m r) = TellsCondition M m r
+Means (worked M m o accepted m') = LockWorked M m o accepted m'
 Means (worked_nth M m o byte m') = WorkedNth M m o byte m'
 Means (worked_least M m o m') = WorkedLeast M m o m'
 Means (before x d y e) = Before x d y e
@@ -130,12 +130,12 @@ rows =
     holds (in_order turned 1 0) ∷
     fails (in_order turned 0 0) ∷
     fails (in_order twice 0 0) ∷
-    -- Told: true where some condition has the marks, false where none has
+    -- TellsCondition: true where some condition has the marks, false where none has
     holds (told port 3 true) ∷
     holds (told port 2 false) ∷
     fails (told port 2 true) ∷
     fails (told port 3 false) ∷
-    -- Worked: accepted where the operation is possible, and then with the marks of an outcome
+    -- LockWorked: accepted where the operation is possible, and then with the marks of an outcome
     holds (worked port 0 0 true 1) ∷
     holds (worked port 0 0 true 3) ∷
     fails (worked port 0 0 true 0) ∷

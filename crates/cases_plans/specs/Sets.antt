@@ -2,7 +2,7 @@
 use Rattle.std.specs.Prelude.{ℕ, suc, Bool, true, false, ◌&&◌, ◌||◌, ◌==◌, List, [], ◌∷◌}
 use Rattle.plans.specs.Simulation.{Domain}
 use Rattle.plans.specs.Iterate.{Iterates, Stable, cut}
-use Rattle.plans.specs.Reach.{Attainable, Steps, Member, Closed, some, each, leads, steps, grown, attains, reached, aim, serves, left}
+use Rattle.plans.specs.Reach.{Attainable, Steps, Member, Closed, any_of, each, leads, steps, grown, attains, reached, aim, serves, left_after}
 use Rattle.cases_plans.specs.Rows.{Row, holds, fails, AllSay}
 use Rattle.cases_plans.specs.Values as values
 use Rattle.cases_plans.specs.Values.{flag}
@@ -58,23 +58,23 @@ rows =
     fails (closed 3 any (is 1) (is 1)) ∷
     fails (closed 2 any none (is 1)) ∷
     -- Stable: the set after a step is that before it, for the pairs that there are
-    holds (stable basin (left basin) 2) ∷
-    holds (stable jamming (left jamming) 4) ∷
+    holds (stable basin (left_after basin) 2) ∷
+    holds (stable jamming (left_after jamming) 4) ∷
     holds (stable basin (λ k s c. k == 0 && c == 3) 0) ∷
-    fails (stable basin (left basin) 0) ∷
-    fails (stable basin (left basin) 1) ∷
-    fails (stable jamming (left jamming) 3) ∷
+    fails (stable basin (left_after basin) 0) ∷
+    fails (stable basin (left_after basin) 1) ∷
+    fails (stable jamming (left_after jamming) 3) ∷
     []
 
 -- ── what is computed ──
 
 abbrev pub computed : List (Row values.Claim)
 computed =
-    -- some, each: one item of the list passes, or all do
-    holds (flag (some (is 2) (1 ∷ 2 ∷ [])) true) ∷
-    holds (flag (some any (0 ∷ [])) true) ∷
-    fails (flag (some (is 3) (1 ∷ 2 ∷ [])) true) ∷
-    fails (flag (some any []) true) ∷
+    -- any_of, each: one item of the list passes, or all do
+    holds (flag (any_of (is 2) (1 ∷ 2 ∷ [])) true) ∷
+    holds (flag (any_of any (0 ∷ [])) true) ∷
+    fails (flag (any_of (is 3) (1 ∷ 2 ∷ [])) true) ∷
+    fails (flag (any_of any []) true) ∷
     holds (flag (each (isnt 3) (1 ∷ 2 ∷ [])) true) ∷
     holds (flag (each none []) true) ∷
     fails (flag (each (is 2) (1 ∷ 2 ∷ [])) true) ∷
@@ -118,13 +118,13 @@ computed =
     holds (flag (serves basin (among []) 2 1) true) ∷
     fails (flag (serves basin (among (pair 0 1 ∷ [])) 0 0) true) ∷
     fails (flag (serves stranding everywhere 0 0) true) ∷
-    -- left: all pairs at first, and after each step those that the set before serves
-    holds (flag (left basin 0 1 2) true) ∷
-    holds (flag (left basin 1 0 2) true) ∷
-    holds (flag (left basin 9 0 0) true) ∷
-    fails (flag (left basin 1 1 2) true) ∷
-    fails (flag (left basin 2 0 2) true) ∷
-    fails (flag (left jamming 4 0 1) true) ∷
+    -- left_after: all pairs at first, and after each step those that the set before serves
+    holds (flag (left_after basin 0 1 2) true) ∷
+    holds (flag (left_after basin 1 0 2) true) ∷
+    holds (flag (left_after basin 9 0 0) true) ∷
+    fails (flag (left_after basin 1 1 2) true) ∷
+    fails (flag (left_after basin 2 0 2) true) ∷
+    fails (flag (left_after jamming 4 0 1) true) ∷
     -- cut: a set, within the domain
     holds (flag (cut basin everywhere 2 2) true) ∷
     holds (flag (cut basin (among (pair 0 1 ∷ [])) 0 1) true) ∷
@@ -139,12 +139,12 @@ computed =
 -- Iterates: all pairs at first, and after each step those served and no others; outside the domain a set may hold what it likes
 abbrev pub iterations : List (Row (ℕ → ℕ → ℕ → Bool))
 iterations =
-    holds (left basin) ∷
-    holds (λ k s c. left basin k s c || (s == 4)) ∷
+    holds (left_after basin) ∷
+    holds (λ k s c. left_after basin k s c || (s == 4)) ∷
     fails (λ k s c. true) ∷
     fails (λ k s c. false) ∷
-    fails (λ k s c. left basin (suc k) s c) ∷
-    fails (λ k s c. left jamming k s c) ∷
+    fails (λ k s c. left_after basin (suc k) s c) ∷
+    fails (λ k s c. left_after jamming k s c) ∷
     []
 
 abbrev pub SetsSay : Type 0

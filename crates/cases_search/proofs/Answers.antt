@@ -7,7 +7,7 @@ use Rattle.plans.specs.Reach.{each}
 use Rattle.plans.proofs.Flags.{every_at, at_every}
 use Rattle.costs.specs.Costs.{Laws}
 use Rattle.costs.specs.Models.{moves_laws, minutes_laws}
-use Rattle.search.specs.Answers.{Best, Answer, Answers}
+use Rattle.search.specs.Answers.{BestToGoal, RightChoice, Answers}
 use Rattle.search.specs.declared.Choice.{Choice}
 use Rattle.search.specs.declared.Choice.TheVariants.{None, There, Work}
 use Rattle.cases_plans.proofs.Rows.{right, all_say}
@@ -65,7 +65,7 @@ quest_test w = bounds.table_test (model_of w.measure) 4 moves (has w.keep) (has 
 
 module _ (w : Quest) (tested : quest_test w ≡ true) where
   abbrev Says : ℕ → Choice (List ℕ) → Type 0
-  Says c x = Answer (model_of w.measure) as_told moves (has w.keep) (has w.goal) c x
+  Says c x = RightChoice (model_of w.measure) as_told moves (has w.keep) (has w.goal) c x
 
   told_says : (c : ℕ) → c < 4 → Says c (told w c)
   told_says c l = told_right (model_of w.measure) 4 moves (has w.keep) (has w.goal) w.answers (laws_of w.measure) within tested c l
@@ -78,13 +78,13 @@ module _ (w : Quest) (tested : quest_test w ≡ true) where
         subst (λ y. same_choice x y ≡ true) q (itself x),
   )
 
-  pub best_decided : (c o : ℕ) (f : List ℕ) → c < 4 → (same_choice (Work o f) (told w c) ≡ true) ↔ Best (model_of w.measure) moves (has w.keep) (has w.goal) c o f
+  pub best_decided : (c o : ℕ) (f : List ℕ) → c < 4 → (same_choice (Work o f) (told w c) ≡ true) ↔ BestToGoal (model_of w.measure) moves (has w.keep) (has w.goal) c o f
   best_decided c o f l = (
     λ e. ((answer_decided c l (Work o f)).0 e).1,
     λ b. (answer_decided c l (Work o f)).1 (away (has w.goal c) refl b, b),
   )
     where
-      away : (g : Bool) → has w.goal c ≡ g → Best (model_of w.measure) moves (has w.keep) (has w.goal) c o f → has w.goal c ≡ false
+      away : (g : Bool) → has w.goal c ≡ g → BestToGoal (model_of w.measure) moves (has w.keep) (has w.goal) c o f → has w.goal c ≡ false
       away true q b = absurd (no_best (model_of w.measure) (laws_of w.measure) moves (has w.keep) (has w.goal) c o f q b)
       away false q b = q
 

@@ -13,7 +13,7 @@ use Rattle.locks.specs.Places.{possible}
 use Rattle.locks.proofs.Standing.{possible_there}
 use Rattle.costs.specs.Costs.{Model, Laws, Sized, Le, cost}
 use Rattle.costs.proofs.Order.{weaken, was_true, not_true, cost_sized}
-use Rattle.search.specs.Answers.{Costs, Prices, Best, Answer}
+use Rattle.search.specs.Answers.{Costs, Prices, BestToGoal, RightChoice}
 use Rattle.search.specs.declared.Choice.{Choice}
 use Rattle.search.specs.declared.Choice.TheVariants.{None as Nothing, There, Work}
 use Rattle.search.proofs.Exact.{none_where, there_where}
@@ -170,7 +170,7 @@ module _ (k : Model) (n : ℕ) (moves : List Move) (keep goal : ℕ → Bool) (a
         (laws.keeps m a (cost k ms) b.1 rest b.2.2) (pr.1.most (m ∷ ms) (t.1, b.2.1)) in
         true≢false (sym (was_so (k.within (k.join m a) f) le) ∙ not_true (k.within (k.join m a) f) t.2.2)
 
-    right_answer : (c : ℕ) → c < n → (x : Choice (List ℕ)) → told c ≡ x → right_test c x ≡ true → Answer k (λ a. a) moves keep goal c x
+    right_answer : (c : ℕ) → c < n → (x : Choice (List ℕ)) → told c ≡ x → right_test c x ≡ true → RightChoice k (λ a. a) moves keep goal c x
     right_answer c l Nothing q e = λ p a. no_value (sym (ap worth q) ∙ (bound p c l a).1.0)
     right_answer c l There q e = e
     right_answer c l (Work o f) q e = (not_true (goal c) g.0, record { next = plan_by n; prices = prices; least = least; lowest = lowest })
@@ -208,13 +208,13 @@ module _ (k : Model) (n : ℕ) (moves : List Move) (keep goal : ℕ → Bool) (a
           | no i ↦ omega arith
         ]
 
-    pub told_right : (c : ℕ) → c < n → Answer k (λ a. a) moves keep goal c (told c)
+    pub told_right : (c : ℕ) → c < n → RightChoice k (λ a. a) moves keep goal c (told c)
     told_right c l = right_answer c l (told c) refl (right c l)
 
 -- ── one answer alone ──
 
 module _ (k : Model) (laws : Laws k) (moves : List Move) (keep goal : ℕ → Bool) (c : ℕ) where
-  below : (o p : ℕ) (f g : List ℕ) → Best k moves keep goal c o f → Best k moves keep goal c p g → Le k f g
+  below : (o p : ℕ) (f g : List ℕ) → BestToGoal k moves keep goal c o f → BestToGoal k moves keep goal c p g → Le k f g
   below o p f g a b =
       let t = a.least (work p b.next) b.prices.0 in
       let s = t.1.some in
@@ -222,12 +222,12 @@ module _ (k : Model) (laws : Laws k) (moves : List Move) (keep goal : ℕ → Bo
       laws.chain f t.0 g (sized o a.next f a.prices.1) (sized p b.next t.0 t.1) (sized p b.next g b.prices.1) t.2
       (subst (λ x. Le k x g) s.2 (b.prices.1.most s.0 s.1))
 
-  same_cost_of : (o p : ℕ) (f g : List ℕ) → Best k moves keep goal c o f → Best k moves keep goal c p g → f ≡ g
+  same_cost_of : (o p : ℕ) (f g : List ℕ) → BestToGoal k moves keep goal c o f → BestToGoal k moves keep goal c p g → f ≡ g
   same_cost_of o p f g a b =
       laws.tie f g (costs_sized (weaken laws) moves keep goal (work o a.next) c f a.prices.1) (costs_sized (weaken laws) moves keep goal (work p b.next) c g b.prices.1)
       (below o p f g a b) (below p o g f b a)
 
-  one_best : (o p : ℕ) (f g : List ℕ) → Best k moves keep goal c o f → Best k moves keep goal c p g → Work o f ≡ Work p g
+  one_best : (o p : ℕ) (f g : List ℕ) → BestToGoal k moves keep goal c o f → BestToGoal k moves keep goal c p g → Work o f ≡ Work p g
   one_best o p f g a b =
       let same = same_cost_of o p f g a b in
       let up : o ≤ p = a.lowest p b.next (subst (λ x. Prices k moves keep goal c x (work p b.next)) (sym same) b.prices) in
@@ -235,7 +235,7 @@ module _ (k : Model) (laws : Laws k) (moves : List Move) (keep goal : ℕ → Bo
       let e : o ≡ p = omega arith in
       ap₂ Work e same
 
-  pub one_answer : (x y : Choice (List ℕ)) → Answer k (λ a. a) moves keep goal c x → Answer k (λ a. a) moves keep goal c y → x ≡ y
+  pub one_answer : (x y : Choice (List ℕ)) → RightChoice k (λ a. a) moves keep goal c x → RightChoice k (λ a. a) moves keep goal c y → x ≡ y
   one_answer Nothing y a b = sym (none_where k (λ a. a) moves keep goal c y b a)
   one_answer There y a b = sym (there_where k (λ a. a) moves keep goal c y b a)
   one_answer (Work o f) Nothing a b = none_where k (λ a. a) moves keep goal c (Work o f) a b
@@ -243,7 +243,7 @@ module _ (k : Model) (laws : Laws k) (moves : List Move) (keep goal : ℕ → Bo
   one_answer (Work o f) (Work p g) a b = one_best o p f g a.1 b.1
 
   -- at a goal nothing is best to begin with
-  pub no_best : (o : ℕ) (f : List ℕ) → goal c ≡ true → Best k moves keep goal c o f → ⊥
+  pub no_best : (o : ℕ) (f : List ℕ) → goal c ≡ true → BestToGoal k moves keep goal c o f → ⊥
   no_best o f e b = some_run b.prices.1.some.0 b.prices.1.some.1 b.prices.1.some.2 (free (b.least stop (stop_attains moves keep goal c e)))
     where
       free : ((g : List ℕ) × Costs k moves stop c g × Le k f g) → Le k f k.zero

@@ -8,7 +8,7 @@ use Rattle.plans.specs.Reach.{each}
 use Rattle.plans.proofs.Attain.{stop_attains}
 use Rattle.costs.specs.Costs.{Model, Laws, Sized, Le, cost}
 use Rattle.costs.proofs.Order.{weaken, cost_sized}
-use Rattle.search.specs.Answers.{Answer}
+use Rattle.search.specs.Answers.{RightChoice}
 use Rattle.search.specs.Labels.{AtLeast}
 use Rattle.search.specs.declared.Choice.{Choice}
 use Rattle.search.specs.declared.Choice.TheVariants.{None as Nothing, There, Work}
@@ -42,7 +42,7 @@ module _ (w : Quest) (tested : quest_test w ≡ true) (c : ℕ) (l : c < 4) (f :
       let ms = b.1.2.0 in
       (ms, b.1.2.1, laws.chain f b.0 (cost k ms) sized b.1.1 (cost_sized (weaken laws) ms) le b.1.2.2)
 
-  back : (x : Choice (List ℕ)) → Answer k (λ a. a) moves (has w.keep) (has w.goal) c x → Bounded → only (λ a. k.within f a) (paid k 4 moves (has w.keep) (has w.goal) w.answers x) ≡ true
+  back : (x : Choice (List ℕ)) → RightChoice k (λ a. a) moves (has w.keep) (has w.goal) c x → Bounded → only (λ a. k.within f a) (paid k 4 moves (has w.keep) (has w.goal) w.answers x) ≡ true
   back Nothing a h = refl
   back There a h = let t = h stop (stop_attains moves (has w.keep) (has w.goal) c a) in ends t.0 t.1 t.2
     where

@@ -3,7 +3,7 @@ use Rattle.std.proofs.Common.{◌≡◌, ℕ, Bool, true, false, ◌&&◌, eqb, 
 use mathlib.Core.Bool.{and-eq-true_iff}
 use Rattle.port.specs.declared.Move.{Move}
 use Rattle.plans.specs.Plans.{Plan, stop, work, Can, IsRun}
-use Rattle.plans.specs.Reach.{some}
+use Rattle.plans.specs.Reach.{any_of}
 use Rattle.plans.proofs.Decide.{some_in, in_some}
 use Rattle.locks.specs.Places.{fits}
 use Rattle.locks.proofs.Standing.{fits_true, fits_parts}
@@ -28,7 +28,7 @@ costs_tell a b = list_tells eqb equal a b
 
 -- some move of the operation passes a test
 abbrev pub some_fits : List Move → ℕ → ℕ → (Move → Bool) → Bool
-some_fits moves c o p = some (λ (m : Move). fits c o m && p m) moves
+some_fits moves c o p = any_of (λ (m : Move). fits c o m && p m) moves
 
 pub some_fits_iff : (moves : List Move) (c o : ℕ) (p : Move → Bool) → (some_fits moves c o p ≡ true) ↔ ((m : Move) × Can moves c o m × (p m ≡ true))
 some_fits_iff moves c o p = (

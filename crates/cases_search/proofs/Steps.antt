@@ -11,7 +11,7 @@ use Rattle.costs.specs.declared.models.Time.{Time}
 use Rattle.costs.specs.Models.{minutes_model, time_list}
 use Rattle.tables.proofs.Options.{some_inj, none_some}
 use Rattle.search.specs.Labels.{After, Worst}
-use Rattle.search.specs.Steps.{start, Started, AllOffered, Above, Worked, Picked, AllPicked}
+use Rattle.search.specs.Steps.{start, Started, AllOffered, Above, LowestAt, Picked, AllPicked}
 use Rattle.search.specs.declared.Choice.{Choice}
 use Rattle.search.specs.declared.Choice.TheVariants.{None as Nothing, There, Work}
 use Rattle.cases_plans.proofs.Rows.{alike, right, all_say}
@@ -106,7 +106,7 @@ module _ (t : List (Option Time)) (c : ℕ) where
       let all = each_op_iff V moves (fits c) (fits_named c) f (leb o) (λ p. at_most o p) in
       (λ h p w. all.0 h p (can_from V c p f w), λ h. all.1 (λ p w. h p (can_to V c p f w)))
 
-  worked_decided : (w : Option (ℕ × Time)) → (worked_test w ≡ true) ↔ Worked minutes_model time_list moves V c w
+  worked_decided : (w : Option (ℕ × Time)) → (worked_test w ≡ true) ↔ LowestAt minutes_model time_list moves V c w
   worked_decided None = only_iff no_op no_op_iff (V c)
   worked_decided (Some w) =
       let parts =

@@ -11,7 +11,7 @@ use Rattle.plans.specs.Reach.{Attainable, each, attains}
 use Rattle.plans.specs.Simulation.{Domain, Task as Asked, WellFormed}
 use Rattle.plans.proofs.Decide.{attains_iff, alike as agree_iff}
 use Rattle.rounds.specs.Rows.{Agree, truths}
-use Rattle.rounds.specs.Tasks.{IsTask, Tells, Told, Fresh}
+use Rattle.rounds.specs.Tasks.{IsTask, IsDomainTask, DomainTasks, Fresh}
 use Rattle.rounds.specs.declared.tasks.Task.{Task}
 use Rattle.cases_plans.proofs.Kept.{formed_test, formed_decided}
 use Rattle.cases_plans.proofs.Rows.{alike, right, all_say}
@@ -62,7 +62,7 @@ rows_tell n q t =
 abbrev tells_test : ℕ → Asked → Task → Bool
 tells_test n q t = (eqb t.from q.from && eqb t.to q.to) && rows_tell n q t
 
-tells_decided : (n : ℕ) (q : Asked) (t : Task) → (tells_test n q t ≡ true) ↔ Tells n q t
+tells_decided : (n : ℕ) (q : Asked) (t : Task) → (tells_test n q t ≡ true) ↔ IsDomainTask n q t
 tells_decided n q t = (
   λ e. let h = parts.0 e in
       record { from = h.0.0; to = h.0.1; keep_long = h.1.0; reach_long = h.1.1.0; keep = h.1.1.1.0; reach = h.1.1.1.1 },
@@ -84,18 +84,18 @@ module _ (D : Domain) (tasks : List Task) (none : Task) where
   abbrev told_test : Bool
   told_test = eqb (length tasks) (length D.tasks) && every one_test (length D.tasks)
 
-  told_decided : (told_test ≡ true) ↔ Told D tasks
+  told_decided : (told_test ≡ true) ↔ DomainTasks D tasks
   told_decided = (
     λ e.
         let h = parts.0 e in
         record {
           many = h.0;
-          each = λ i d l. subst (Tells D.conditions (task_at D i)) (sym (get_or_default tasks i d none (subst (λ n. i < n) (sym h.0) l))) (h.1 i l);
+          each = λ i d l. subst (IsDomainTask D.conditions (task_at D i)) (sym (get_or_default tasks i d none (subst (λ n. i < n) (sym h.0) l))) (h.1 i l);
         },
     λ t. parts.1 (t.many, λ i l. t.each i none l),
   )
     where
-      parts : (told_test ≡ true) ↔ ((length tasks ≡ length D.tasks) × ((i : ℕ) → i < length D.tasks → Tells D.conditions (task_at D i) (slice_index_or tasks i none)))
+      parts : (told_test ≡ true) ↔ ((length tasks ≡ length D.tasks) × ((i : ℕ) → i < length D.tasks → IsDomainTask D.conditions (task_at D i) (slice_index_or tasks i none)))
       parts =
           both (eqb (length tasks) (length D.tasks)) (every one_test (length D.tasks)) (equal (length tasks) (length D.tasks))
           (every_iff one_test (length D.tasks) (λ i l. tells_decided D.conditions (task_at D i) (slice_index_or tasks i none)))

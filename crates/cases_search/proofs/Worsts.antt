@@ -3,7 +3,7 @@ use Rattle.std.proofs.Common.{◌≡◌, ℕ, Bool, true, false, cond, not, ◌&
 use mathlib.Core.Bool.{and-eq-true_iff, false≢true}
 use Rattle.port.specs.Limits.{In}
 use Rattle.port.specs.declared.Move.{Move}
-use Rattle.plans.specs.Reach.{some, each}
+use Rattle.plans.specs.Reach.{any_of, each}
 use Rattle.plans.proofs.Decide.{some_in, in_some, each_in, in_each, implies, or_cases}
 use Rattle.costs.specs.Costs.{Sized, Le}
 use Rattle.costs.specs.Models.{minutes_model, minutes_laws}
@@ -37,19 +37,19 @@ module _ (V : ℕ → Option (List ℕ)) (ms : List Move) where
   hits f m = there (λ a. same_cost (minutes_model.join m a) f) (V m.outcome)
 
   abbrev pub worst_test : (Move → Bool) → List ℕ → Bool
-  worst_test p f = each (λ m. not (p m) || at_most f m) ms && some (λ m. p m && hits f m) ms
+  worst_test p f = each (λ m. not (p m) || at_most f m) ms && any_of (λ m. p m && hits f m) ms
 
   pub worst_decided : (p : Move → Bool) (f : List ℕ) → (worst_test p f ≡ true) ↔ Worst minutes_model (After V) (Of p) f
   worst_decided p f = (
     λ e.
-        let h = (and-eq-true_iff (each below ms) (some tops ms)).0 e in
+        let h = (and-eq-true_iff (each below ms) (any_of tops ms)).0 e in
         let t = some_in tops ms h.1 in
         let u = (and-eq-true_iff (p t.0) (hits f t.0)).0 t.2 in
         record {
           each = λ m q. (least m).0 ((implies (p m) (at_most f m)).0 (each_in below ms h.0 m q.0) q.1);
           top = (t.0, (t.1, u.0), (hit t.0).0 u.1);
         },
-    λ w. (and-eq-true_iff (each below ms) (some tops ms)).1 (
+    λ w. (and-eq-true_iff (each below ms) (any_of tops ms)).1 (
       in_each below ms (λ m i. (implies (p m) (at_most f m)).1 (λ q. (least m).1 (w.each m (i, q)))),
       in_some tops w.top.0 ms w.top.1.0 ((and-eq-true_iff (p w.top.0) (hits f w.top.0)).1 (w.top.1.1, (hit w.top.0).1 w.top.2)),
     ),
@@ -86,7 +86,7 @@ module _ (V : ℕ → Option (List ℕ)) (ms : List Move) where
 
   -- what is found is right
   abbrev right_for : (Move → Bool) → Option (List ℕ) → Bool
-  right_for p None = each (λ m. not (p m)) ms || some (λ m. p m && nothing (V m.outcome)) ms
+  right_for p None = each (λ m. not (p m)) ms || any_of (λ m. p m && nothing (V m.outcome)) ms
   right_for p (Some f) = worst_test p f
 
   abbrev pub found_test : (Move → Bool) → Bool
@@ -107,12 +107,12 @@ module _ (V : ℕ → Option (List ℕ)) (ms : List Move) where
     one_worst p f g v w = minutes_laws.tie f g (worst_size p f v) (worst_size p g w) (within_other p f g v w) (within_other p g f w v)
 
     no_worst : (p : Move → Bool) (f : List ℕ) → right_for p None ≡ true → Worst minutes_model (After V) (Of p) f → ⊥
-    no_worst p f e w = ⊎_elim empty bare (or_cases (each (λ m. not (p m)) ms) (some (λ m. p m && nothing (V m.outcome)) ms) e)
+    no_worst p f e w = ⊎_elim empty bare (or_cases (each (λ m. not (p m)) ms) (any_of (λ m. p m && nothing (V m.outcome)) ms) e)
       where
         empty : each (λ m. not (p m)) ms ≡ true → ⊥
         empty h = false≢true (ap not (sym w.top.1.1) ∙ each_in (λ m. not (p m)) ms h w.top.0 w.top.1.0)
 
-        bare : some (λ m. p m && nothing (V m.outcome)) ms ≡ true → ⊥
+        bare : any_of (λ m. p m && nothing (V m.outcome)) ms ≡ true → ⊥
         bare h =
             let t = some_in (λ m. p m && nothing (V m.outcome)) ms h in
             let u = (and-eq-true_iff (p t.0) (nothing (V t.0.outcome))).0 t.2 in
@@ -134,7 +134,7 @@ module _ (V : ℕ → Option (List ℕ)) (ms : List Move) where
 
   module _ (q : ℕ → Move → Bool) (named : (o : ℕ) (m : Move) → q o m ≡ true → m.operation ≡ o) where
     abbrev pub some_op_test : List ℕ → Bool
-    some_op_test f = some (λ m. worst_test (q m.operation) f) ms
+    some_op_test f = any_of (λ m. worst_test (q m.operation) f) ms
 
     pub some_op_iff : (f : List ℕ) → (some_op_test f ≡ true) ↔ ((o : ℕ) × Worst minutes_model (After V) (Of (q o)) f)
     some_op_iff f = (

@@ -2,7 +2,7 @@
 use Rattle.std.specs.Prelude.{ℕ, Bool, List, [], ◌∷◌}
 use Rattle.plans.specs.Flags.{has}
 use Rattle.plans.specs.Plans.{Plan, stop, work}
-use Rattle.search.specs.Answers.{Costs, Prices, Best, Answer, Answers}
+use Rattle.search.specs.Answers.{Costs, Prices, BestToGoal, RightChoice, Answers}
 use Rattle.search.specs.declared.Choice.{Choice}
 use Rattle.search.specs.declared.Choice.TheVariants.{None, There, Work}
 use Rattle.cases_plans.specs.Rows.{Row, holds, fails, AllSay}
@@ -26,8 +26,8 @@ as_told x = x
 abbrev pub Means : Claim → Type 0
 Means (costs u plan c f) = Costs (model_of u) moves plan c f
 Means (prices u keep goal c f plan) = Prices (model_of u) moves keep goal c f plan
-Means (best w c o f) = Best (model_of w.measure) moves (has w.keep) (has w.goal) c o f
-Means (answer w c x) = Answer (model_of w.measure) as_told moves (has w.keep) (has w.goal) c x
+Means (best w c o f) = BestToGoal (model_of w.measure) moves (has w.keep) (has w.goal) c o f
+Means (answer w c x) = RightChoice (model_of w.measure) as_told moves (has w.keep) (has w.goal) c x
 Means (answers w n r) = Answers n (model_of w.measure) as_told moves w.keep w.goal r
 
 -- plans: one operation, two, and to hoist and then draw whatever came
@@ -53,7 +53,7 @@ rows =
     fails (prices by_minutes any (is 2) 0 (two 4 1) (once 2)) ∷
     fails (prices by_minutes (is 0) (is 2) 0 (two 4 2) (twice 0 0)) ∷
     fails (prices by_minutes any (is 2) 0 (two 4 1) (twice 0 0)) ∷
-    -- Best: of all plans to the goal, in the model's order, with the lowest operation
+    -- BestToGoal: of all plans to the goal, in the model's order, with the lowest operation
     holds (best high 0 0 (two 4 2)) ∷
     holds (best high_soon 0 1 (one 1)) ∷
     holds (best high_at_once 0 1 (two 5 1)) ∷
@@ -67,7 +67,7 @@ rows =
     fails (best high_at_once 0 3 (two 5 1)) ∷
     fails (best high_or_stuck 0 2 (two 1 1)) ∷
     fails (best high 3 0 (two 0 0)) ∷
-    -- Answer: None where there is no plan, There where the goal is, and elsewhere the best
+    -- RightChoice: None where there is no plan, There where the goal is, and elsewhere the best
     holds (answer high 3 None) ∷
     holds (answer high_at_once 1 None) ∷
     holds (answer high 2 There) ∷

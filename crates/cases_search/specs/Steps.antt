@@ -5,7 +5,7 @@ use Rattle.costs.specs.declared.models.Time.{Time}
 use Rattle.costs.specs.Models.{minutes_model, time_list}
 use Rattle.search.specs.declared.Choice.{Choice}
 use Rattle.search.specs.declared.Choice.TheVariants.{None as Nothing, There, Work}
-use Rattle.search.specs.Steps.{start, Started, AllOffered, Above, Worked, Picked, AllPicked}
+use Rattle.search.specs.Steps.{start, Started, AllOffered, Above, LowestAt, Picked, AllPicked}
 use Rattle.cases_plans.specs.Rows.{Row, holds, fails, AllSay}
 use Rattle.cases_plans.specs.Values as values
 use Rattle.cases_plans.specs.Values.{price}
@@ -40,7 +40,7 @@ abbrev pub Means : Claim → Type 0
 Means (started goal n t) = Started minutes_model time_list (has goal) n t
 Means (all_offered keep n t u) = AllOffered minutes_model moves (has keep) n (costs_in t) (costs_in u)
 Means (above n t u) = Above minutes_model n (costs_in t) (costs_in u)
-Means (worked t c w) = Worked minutes_model time_list moves (costs_in t) c w
+Means (worked t c w) = LowestAt minutes_model time_list moves (costs_in t) c w
 Means (picked t goal c x) = Picked minutes_model time_list moves (costs_in t) (has goal) c x
 Means (all_picked t goal n r) = AllPicked minutes_model time_list moves (costs_in t) (has goal) n r
 
@@ -77,7 +77,7 @@ rows =
     holds (above 1 second (time 2 1 ∷ time 0 0 ∷ [])) ∷
     fails (above 2 second (time 2 1 ∷ time 0 0 ∷ [])) ∷
     fails (above 4 second (time 1 9 ∷ [])) ∷
-    -- Worked: the lowest operation that comes to the condition's cost, or that none does
+    -- LowestAt: the lowest operation that comes to the condition's cost, or that none does
     holds (worked last 0 (Some (0, cost 4 2))) ∷
     holds (worked last 1 (Some (0, cost 2 1))) ∷
     holds (worked (time 5 1 ∷ None ∷ time 0 0 ∷ []) 0 (Some (1, cost 5 1))) ∷

@@ -5,9 +5,9 @@ use Rattle.port.specs.Model.{RequestModel}
 use Rattle.plans.specs.Flags.{has, bit}
 use Rattle.plans.specs.Simulation.{Domain, Task as Asked}
 use Rattle.search.specs.declared.Choice.TheVariants.{None, There, Work}
-use Rattle.rounds.specs.Rows.{Agree, both, truths}
+use Rattle.rounds.specs.Rows.{Agree, both_rows, truths}
 use Rattle.rounds.specs.Rounds.{serving}
-use Rattle.rounds.specs.Tasks.{planned, IsTask, Tells, Told, Fresh}
+use Rattle.rounds.specs.Tasks.{planned, IsTask, IsDomainTask, DomainTasks, Fresh}
 use Rattle.cases_plans.specs.Rows.{Row, holds, fails, AllSay}
 use Rattle.cases_plans.specs.Values as values
 use Rattle.cases_plans.specs.Values.{flag, numbers}
@@ -25,11 +25,11 @@ marks = 0 ∷ 1 ∷ 3 ∷ []
 
 abbrev pub computed : List (Row values.Claim)
 computed =
-    -- both: the flags that both rows have, and as many as the shorter
-    holds (numbers (bits (both (true ∷ true ∷ false ∷ []) (true ∷ false ∷ true ∷ []))) (1 ∷ 0 ∷ 0 ∷ [])) ∷
-    holds (numbers (bits (both (true ∷ true ∷ []) (true ∷ []))) (1 ∷ [])) ∷
-    fails (numbers (bits (both (true ∷ false ∷ []) (false ∷ true ∷ []))) (1 ∷ 1 ∷ [])) ∷
-    fails (numbers (bits (both (true ∷ []) (false ∷ []))) (1 ∷ [])) ∷
+    -- both_rows: the flags that both rows have, and as many as the shorter
+    holds (numbers (bits (both_rows (true ∷ true ∷ false ∷ []) (true ∷ false ∷ true ∷ []))) (1 ∷ 0 ∷ 0 ∷ [])) ∷
+    holds (numbers (bits (both_rows (true ∷ true ∷ []) (true ∷ []))) (1 ∷ [])) ∷
+    fails (numbers (bits (both_rows (true ∷ false ∷ []) (false ∷ true ∷ []))) (1 ∷ 1 ∷ [])) ∷
+    fails (numbers (bits (both_rows (true ∷ []) (false ∷ []))) (1 ∷ [])) ∷
     -- truths: where a text holds, condition by condition
     holds (numbers (bits (truths 2 marks (codes "a"))) (0 ∷ 1 ∷ 1 ∷ [])) ∷
     holds (numbers (bits (truths 2 marks (codes "!b"))) (1 ∷ 1 ∷ 0 ∷ [])) ∷
@@ -65,8 +65,8 @@ pub data Claim : Type 0 where
 abbrev pub Means : Global → Claim → Type 0
 Means heap (agree n f g) = Agree n (has f) (has g)
 Means heap (is_task q t) = IsTask 2 marks q (task_of heap t)
-Means heap (tells n q t) = Tells n q (task_of heap t)
-Means heap (told D ts) = Told D (map (task_of heap) ts)
+Means heap (tells n q t) = IsDomainTask n q (task_of heap t)
+Means heap (told D ts) = DomainTasks D (map (task_of heap) ts)
 Means heap (fresh D alive t) = Fresh D alive (task_of heap t)
 
 abbrev asked : RequestModel
@@ -107,7 +107,7 @@ rows =
     fails (is_task asked (made 1 0 (three true true true) (three true false false))) ∷
     fails (is_task asked (made 1 0 (three true true false) (three true true false))) ∷
     fails (is_task asked (made 1 0 (three true true false) (true ∷ []))) ∷
-    -- Tells: the same for a task of a domain of so many conditions
+    -- IsDomainTask: the same for a task of a domain of so many conditions
     holds (tells 3 raise raising) ∷
     holds (tells 3 settle settling) ∷
     fails (tells 3 raise settling) ∷
@@ -116,7 +116,7 @@ rows =
     fails (tells 3 settle (made 1 0 (three true true false) (three true false true))) ∷
     fails (tells 3 settle (made 1 0 (true ∷ true ∷ []) (three true false false))) ∷
     fails (tells 3 settle (made 1 0 (three true true false) (true ∷ []))) ∷
-    -- Told: each task of the domain, at its place
+    -- DomainTasks: each task of the domain, at its place
     holds (told basin (raising ∷ settling ∷ [])) ∷
     holds (told jamming (raising ∷ settling ∷ [])) ∷
     fails (told basin (settling ∷ raising ∷ [])) ∷

@@ -10,8 +10,8 @@ use Rattle.port.specs.Limits.{In}
 use Rattle.port.specs.Model.{Model, model_of}
 use Rattle.port.specs.Valid.{Valid}
 use Rattle.reading.specs.Reading.{Read, held, refused, and_then, provided, byte, bytes, number, field, minutes, text_length, whole_text, judged, text, rises, condition, move, request, admitted, head, body, entry, count, start_stage, opening, heading, add, finish, records, reading}
-use Rattle.reading.specs.SheetOf.{joined, sheet_of}
-use Rattle.sheet.specs.Loading.{Tells, Loaded, Holds}
+use Rattle.reading.specs.SheetOf.{concatenated, sheet_of}
+use Rattle.sheet.specs.Loading.{TellsReading, Loaded, HoldsPort}
 use Rattle.cases_words.specs.Rows.{Said}
 use Rattle.cases_words.proofs.Rows.{same_answers}
 use Rattle.cases_words.proofs.Fields.{fault_code}
@@ -33,12 +33,12 @@ told value x (Ok v) = value v
 told value x (Err (Fault f n)) = refused f n
 told value x (Err Memory) = x
 
-telling : (value : Model → Read) (x : Read) (r : Result Model LoadError) → x ≡ told value x r → Tells value x r
+telling : (value : Model → Read) (x : Read) (r : Result Model LoadError) → x ≡ told value x r → TellsReading value x r
 telling value x (Ok v) e = e
 telling value x (Err (Fault f n)) e = e
 telling value x (Err Memory) e = tt
 
-tells_told : (value : Model → Read) (x : Read) (r : Result Model LoadError) → Tells value x r → x ≡ told value x r
+tells_told : (value : Model → Read) (x : Read) (r : Result Model LoadError) → TellsReading value x r → x ≡ told value x r
 tells_told value x (Ok v) e = e
 tells_told value x (Err (Fault f n)) e = e
 tells_told value x (Err Memory) e = refl
@@ -63,7 +63,7 @@ promised x from to (Err (Fault f n)) = (refused f n, to)
 promised x from to (Err Memory) = (x, to)
 
 loads_same : (r : LoadRow) → In r loads → Said r.holds ((reading r.sheet, r.before) ≡ promised (reading r.sheet) r.before r.after r.answer)
-unfolding joined sheet_of step goes verdict reading and_then provided byte bytes number field minutes text_length whole_text judged text rises condition move request admitted head body entry count start_stage opening heading add finish records
+unfolding concatenated sheet_of step goes verdict reading and_then provided byte bytes number field minutes text_length whole_text judged text rises condition move request admitted head body entry count start_stage opening heading add finish records
 loads_same =
     all_same state_code (λ (r : LoadRow). (reading r.sheet, r.before)) (λ (r : LoadRow). promised (reading r.sheet) r.before r.after r.answer)
     (λ (r : LoadRow). r.holds) loads refl refl
@@ -151,12 +151,12 @@ all_valid : map (λ (r : HoldsRow). valid r.after) holdings ≡ map (λ (r : Hol
 unfolding step goes verdict
 all_valid = refl
 
-holds_it : (m after : Model) (r : Result (Unit {0}) LoadError) (p : Port) → model_of p ≡ after → (true, after) ≡ holding m after r → Holds m p r
+holds_it : (m after : Model) (r : Result (Unit {0}) LoadError) (p : Port) → model_of p ≡ after → (true, after) ≡ holding m after r → HoldsPort m p r
 holds_it m after (Ok u) p q e = q ∙ ap (λ (x : Bool × Model). x.1) e
 holds_it m after (Err (Fault f n)) p q e = absurd (false≢true (sym (ap (λ (x : Bool × Model). x.0) e)))
 holds_it m after (Err Memory) p q e = tt
 
-it_holds : (m after : Model) (r : Result (Unit {0}) LoadError) (p : Port) → model_of p ≡ after → Holds m p r → (true, after) ≡ holding m after r
+it_holds : (m after : Model) (r : Result (Unit {0}) LoadError) (p : Port) → model_of p ≡ after → HoldsPort m p r → (true, after) ≡ holding m after r
 it_holds m after (Ok u) p q h = ap (λ (x : Model). (true, x)) (sym q ∙ h)
 it_holds m after (Err (Fault f n)) p q h = absurd h
 it_holds m after (Err Memory) p q h = refl

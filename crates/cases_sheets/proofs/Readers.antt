@@ -5,7 +5,7 @@ use Rattle.faults.specs.declared.layers.RecordFault.{RecordFault}
 use Rattle.port.specs.Limits.{In}
 use Rattle.reading.specs.Reading.{Step, got, fault, and_then, provided, byte, number, count, text_length}
 use Rattle.reader.specs.declared.reader.Reader.{Reader}
-use Rattle.reader.specs.Reads.{step, Reads, counted}
+use Rattle.reader.specs.Reads.{step_at, Reads, counted}
 use Rattle.cases_words.specs.Rows.{Said}
 use Rattle.cases_words.proofs.Rows.{all_shown}
 use Rattle.cases_words.proofs.Fields.{step_code, number_code}
@@ -26,18 +26,18 @@ module _ {E : Type 0} where
   told value lift after (Err e) = fault (lift e)
 
   abbrev made : ReadsRow E → Step ℕ
-  made r = step r.read r.before
+  made r = step_at r.read r.before
 
   abbrev telling : ReadsRow E → Step ℕ
   telling r = told r.value r.lift r.after r.answer
 
   to_reads : (read : ℕ → List ℕ → Step ℕ) (value : ℕ → ℕ) (lift : E → PortFault) (before after : Reader) (r : Result ℕ E) →
-      step read before ≡ told value lift after r → Reads read value lift before after r
+      step_at read before ≡ told value lift after r → Reads read value lift before after r
   to_reads read value lift before after (Ok v) e = e
   to_reads read value lift before after (Err f) e = e
 
   from_reads : (read : ℕ → List ℕ → Step ℕ) (value : ℕ → ℕ) (lift : E → PortFault) (before after : Reader) (r : Result ℕ E) →
-      Reads read value lift before after r → step read before ≡ told value lift after r
+      Reads read value lift before after r → step_at read before ≡ told value lift after r
   from_reads read value lift before after (Ok v) e = e
   from_reads read value lift before after (Err f) e = e
 

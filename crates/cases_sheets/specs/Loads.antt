@@ -11,7 +11,7 @@ use Rattle.port.specs.Limits.{In}
 use Rattle.port.specs.Model.{Model, model_of, first}
 use Rattle.reading.specs.Reading.{Read, held, refused, finish, reading}
 use Rattle.reading.specs.SheetOf.{sheet_of}
-use Rattle.sheet.specs.Loading.{Tells, Loaded, Holds}
+use Rattle.sheet.specs.Loading.{TellsReading, Loaded, HoldsPort}
 use Rattle.cases_words.specs.Rows.{Said}
 use Rattle.cases_words.specs.Ports.{port, heads, quay, moved}
 use Rattle.cases_words.specs.Sheets.{quay_sheet}
@@ -61,7 +61,7 @@ tells =
     []
 
 abbrev pub TellsHold : Type 0
-TellsHold = (r : TellsRow) → In r tells → Said r.holds (Tells r.value r.read r.answer)
+TellsHold = (r : TellsRow) → In r tells → Said r.holds (TellsReading r.value r.read r.answer)
 
 -- ── the load ──
 
@@ -155,7 +155,7 @@ holdings =
 pub record HoldsIs (r : HoldsRow) : Type 0 where
   pub port : Global → Port
   pub is : (heap : Global) → model_of (port heap) ≡ r.after
-  pub said : (p : Port) → model_of p ≡ r.after → Said r.holds (Holds r.asked p r.answer)
+  pub said : (p : Port) → model_of p ≡ r.after → Said r.holds (HoldsPort r.asked p r.answer)
 
 abbrev pub HoldingsHold : Type 0
 HoldingsHold = (r : HoldsRow) → In r holdings → HoldsIs r
@@ -164,7 +164,7 @@ HoldingsHold = (r : HoldsRow) → In r holdings → HoldsIs r
 
 -- what a load of a sheet comes to, by what is read: the port is held; or the reading's fault is told, and no other, and the port is as it was
 abbrev pub ComesTo : Read → Port → Port → Result (Unit {0}) LoadError → Type 0
-ComesTo (held m) before after r = Holds m after r
+ComesTo (held m) before after r = HoldsPort m after r
 ComesTo (refused f n) before after (Ok _) = ⊥
 ComesTo (refused f n) before after (Err (Fault g k)) = (g ≡ f) × ((k ≡ n) × (after ≡ before))
 ComesTo (refused f n) before after (Err Memory) = after ≡ before

@@ -10,7 +10,7 @@ use Rattle.faults.specs.declared.layers.PortFault.TheVariants.{Record, Count, Mi
 use Rattle.port.specs.Limits.{In}
 use Rattle.reading.specs.Reading.{Step, got, fault, byte, number, count, text_length}
 use Rattle.reader.specs.declared.reader.Reader.{Reader}
-use Rattle.reader.specs.Reads.{step, Reads, itself, counted}
+use Rattle.reader.specs.Reads.{step_at, Reads, itself, counted}
 use Rattle.cases_words.specs.Rows.{Said, Row, gives, Shown}
 use Rattle.cases_words.specs.Fields.{ends, absent_at}
 
@@ -39,11 +39,11 @@ bad = reader 10 (0 ∷ 8 ∷ []) (omega arith)
 abbrev pub steps : List (Row (Step ℕ))
 steps =
     -- the step is made at the reader's place, of the bytes that it has left
-    gives (step byte begun) (got 7 11 (8 ∷ [])) (got 8 12 []) ∷
-    gives (step byte next) (got 8 12 []) (got 7 11 (8 ∷ [])) ∷
-    gives (step byte done) (fault (ends 12)) (fault (ends 10)) ∷
-    gives (step (number true) bad) (fault (absent_at 10)) (got 0 11 (8 ∷ [])) ∷
-    gives (step (number false) bad) (got 0 10 (0 ∷ 8 ∷ [])) (fault (absent_at 10)) ∷
+    gives (step_at byte begun) (got 7 11 (8 ∷ [])) (got 8 12 []) ∷
+    gives (step_at byte next) (got 8 12 []) (got 7 11 (8 ∷ [])) ∷
+    gives (step_at byte done) (fault (ends 12)) (fault (ends 10)) ∷
+    gives (step_at (number true) bad) (fault (absent_at 10)) (got 0 11 (8 ∷ [])) ∷
+    gives (step_at (number false) bad) (got 0 10 (0 ∷ 8 ∷ [])) (fault (absent_at 10)) ∷
     -- counted: from 1 to 7, and another is refused by the fault that is given
     gives (counted 7 (Missing 3) 10 (7 ∷ 9 ∷ [])) (got 7 11 (9 ∷ [])) (fault (Missing 3)) ∷
     gives (counted 7 (Missing 3) 10 (1 ∷ [])) (got 1 11 []) (got 1 10 (1 ∷ [])) ∷

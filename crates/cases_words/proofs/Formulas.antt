@@ -4,11 +4,11 @@ use mathlib.Core.Bool.{false≢true}
 use native.Mathlib.Decide.{dec_lt}
 use Rattle.std.specs.Bool.{Decides}
 use Rattle.std.proofs.lemmas.Bool.Decides.{Decides-and, Decides-not, Decides-like}
-use Rattle.formula.specs.Grammar.{Part, atom, product, sum, Stands, Whole, Verdict, whole, stuck, goes, step, verdict, opens, AtomRead, ProductRead, SumRead, Refused, NoFormula}
+use Rattle.formula.specs.Grammar.{Part, atom, product, sum, Stands, Whole, TextVerdict, whole, stuck, goes, step, verdict, opens, AtomRead, ProductRead, SumRead, Refused, NoFormula}
 use Rattle.formula.proofs.Language.{went}
 use Rattle.formula.proofs.Truths as truths
 use Rattle.reading.proofs.Words.{grammatical}
-use Rattle.reading.specs.Theorems.{Judged}
+use Rattle.reading.specs.Theorems.{GrammarAgrees}
 use Rattle.cases_words.specs.Formulas.{PartRow, parts, PartsHold, PlaceRow, places, PlacesHold, WholeRow, wholes, WholesHold, ReadAs, read_parts, ReadPartsHold, RefusedRow, refusals, RefusalsHold, FaultyRow, faulty, FaultyHold, Unambiguous}
 use Rattle.cases_words.specs.Rows.{Said}
 use Rattle.cases_words.proofs.Rows.{all_said, apart, each_in}
@@ -141,11 +141,11 @@ one_place n t p q a b =
       | no l ↦ elim (dec_lt q p) [ yes k ↦ absurd (no_later n t q p b a k) | no k ↦ omega arith ]
     ]
 
-abbrev pub is_stuck : Verdict → ℕ → Bool
+abbrev pub is_stuck : TextVerdict → ℕ → Bool
 is_stuck whole p = false
 is_stuck (stuck q) p = eqb q p
 
-pub faulty_by : (n : ℕ) (t : List ℕ) (p : ℕ) (v : Verdict) → Judged n t v → Decides (is_stuck v p) (NoFormula n t p)
+pub faulty_by : (n : ℕ) (t : List ℕ) (p : ℕ) (v : TextVerdict) → GrammarAgrees n t v → Decides (is_stuck v p) (NoFormula n t p)
 faulty_by n t p whole j = (λ e. absurd (false≢true e), λ f. absurd (f.none 0 (j 0).0 (j 0).1))
 faulty_by n t p (stuck q) j =
     (λ e. subst (NoFormula n t) (eqb-true q p e) j, λ f. eq-eqb q p (one_place n t q p j f))

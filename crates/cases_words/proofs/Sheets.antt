@@ -3,13 +3,13 @@ use Rattle.std.proofs.Common.{◌≡◌, ℕ, Bool, true, false, not, ◌&&◌, 
 use mathlib.Core.Bool.{false≢true}
 use Rattle.std.specs.Bool.{Decides}
 use Rattle.std.proofs.lemmas.Bool.Decides.{Decides-and, Decides-ltb}
-use Rattle.formula.specs.Grammar.{step, goes, verdict, Verdict, whole, stuck}
+use Rattle.formula.specs.Grammar.{step, goes, verdict, TextVerdict, whole, stuck}
 use Rattle.formula.proofs.Language.{whole_verdict}
 use Rattle.port.specs.Model.{Model}
 use Rattle.faults.specs.declared.layers.PortFault.TheVariants.{Start}
 use Rattle.reading.specs.Reading.{Read, held, refused, same, and_then, provided, byte, bytes, number, field, minutes, text_length, whole_text, judged, text, rises, condition, move, request, admitted, head, body, entry, count, start_stage, opening, heading, add, finish, records, reading}
-use Rattle.reading.specs.SheetOf.{Bytes, joined, sheet_of}
-use Rattle.reading.specs.Theorems.{Only, Judged}
+use Rattle.reading.specs.SheetOf.{Bytes, concatenated, sheet_of}
+use Rattle.reading.specs.Theorems.{Only, GrammarAgrees}
 use Rattle.reading.proofs.Steps.{same_true, same_self}
 use Rattle.reading.proofs.Sound.{reading_only}
 use Rattle.reading.proofs.Keeps.{reading_valid}
@@ -25,7 +25,7 @@ use Rattle.cases_words.proofs.Ports.{valid, valid_decides}
 use Rattle.cases_words.proofs.Records.{model_code}
 
 pub written_shown : WrittenShown
-unfolding joined sheet_of
+unfolding concatenated sheet_of
 written_shown = all_shown (λ (w : List ℕ). w) written refl refl
 
 pub map_bits_shown : MapBitsShown
@@ -40,7 +40,7 @@ bytes_decides [] = (λ e. tt, λ h. refl)
 bytes_decides (b ∷ s) = Decides-and (ltb b 256) (are_bytes s) (Decides-ltb b 256) (bytes_decides s)
 
 pub bytes_hold : BytesHold
-unfolding joined sheet_of
+unfolding concatenated sheet_of
 bytes_hold = all_said _ (λ (r : BytesRow). are_bytes r.list) (λ (r : BytesRow). r.holds) (λ r. bytes_decides r.list) byte_lists refl
 
 abbrev read_code : Read → List ℕ
@@ -48,7 +48,7 @@ read_code (held m) = 0 ∷ model_code m
 read_code (refused f n) = 1 ∷ (fault_code f ++ (n ∷ []))
 
 pub reads_shown : ReadsShown
-unfolding joined sheet_of step goes verdict reading and_then provided byte bytes number field minutes text_length whole_text judged text rises condition move request admitted head body entry count start_stage opening heading add finish records
+unfolding concatenated sheet_of step goes verdict reading and_then provided byte bytes number field minutes text_length whole_text judged text rises condition move request admitted head body entry count start_stage opening heading add finish records
 reads_shown = all_shown read_code reads refl refl
 
 -- ── the only sheet of a port ──
@@ -70,11 +70,11 @@ only_decides t m b = go (valid m) refl
     )
 
 all_only : map (λ (r : OnlyRow). is_only r.sheet r.port) onlies ≡ map (λ (r : OnlyRow). r.holds) onlies
-unfolding joined sheet_of step goes verdict
+unfolding concatenated sheet_of step goes verdict
 all_only = refl
 
 all_bytes : map (λ (r : OnlyRow). not (valid r.port) || are_bytes (sheet_of r.port)) onlies ≡ map (λ (r : OnlyRow). true) onlies
-unfolding joined sheet_of step goes verdict
+unfolding concatenated sheet_of step goes verdict
 all_bytes = refl
 
 implied : (a b : Bool) → (not a || b) ≡ true → a ≡ true → b ≡ true
@@ -91,17 +91,17 @@ onlies_hold r i =
 
 -- ── what the grammar says of a text ──
 
-abbrev is_judged : Verdict → Verdict → Bool
+abbrev is_judged : TextVerdict → TextVerdict → Bool
 is_judged v whole = elim v [ whole ↦ true | stuck p ↦ false ]
 is_judged v (stuck k) = is_stuck v k
 
-is_whole_verdict : (v : Verdict) → is_judged v whole ≡ true → v ≡ whole
+is_whole_verdict : (v : TextVerdict) → is_judged v whole ≡ true → v ≡ whole
 is_whole_verdict whole e = refl
 is_whole_verdict (stuck p) e = absurd (false≢true e)
 
-judged_decides : (n : ℕ) (t : List ℕ) (v : Verdict) → Decides (is_judged (verdict n t) v) (Judged n t v)
+judged_decides : (n : ℕ) (t : List ℕ) (v : TextVerdict) → Decides (is_judged (verdict n t) v) (GrammarAgrees n t v)
 judged_decides n t whole = (
-  λ e. subst (Judged n t) (is_whole_verdict (verdict n t) e) (grammatical n t),
+  λ e. subst (GrammarAgrees n t) (is_whole_verdict (verdict n t) e) (grammatical n t),
   λ j. ap (λ v. is_judged v whole) (whole_verdict n 0 t (j 0).0 (j 0).1),
 )
 judged_decides n t (stuck k) = faulty_by n t k (verdict n t) (grammatical n t)
@@ -122,11 +122,11 @@ abbrev slow : Model
 slow = port (header 1 1 1 0 0) (0 ∷ []) (limits.move 0 0 0 300 ∷ []) []
 
 read_slow : reading no_bytes ≡ held slow
-unfolding joined sheet_of step goes verdict reading and_then provided byte bytes number field minutes text_length whole_text judged text rises condition move request admitted head body entry count start_stage opening heading add finish records
+unfolding concatenated sheet_of step goes verdict reading and_then provided byte bytes number field minutes text_length whole_text judged text rises condition move request admitted head body entry count start_stage opening heading add finish records
 read_slow = refl
 
 other_sheet : same no_bytes (sheet_of slow) ≡ false
-unfolding joined sheet_of
+unfolding concatenated sheet_of
 other_sheet = refl
 
 -- a port without conditions has no start
@@ -134,7 +134,7 @@ abbrev nowhere : Model
 nowhere = port heads [] [] []
 
 read_nowhere : reading (sheet_of nowhere) ≡ refused Start 0
-unfolding joined sheet_of step goes verdict reading and_then provided byte bytes number field minutes text_length whole_text judged text rises condition move request admitted head body entry count start_stage opening heading add finish records
+unfolding concatenated sheet_of step goes verdict reading and_then provided byte bytes number field minutes text_length whole_text judged text rises condition move request admitted head body entry count start_stage opening heading add finish records
 read_nowhere = refl
 
 pub needed : Needed

@@ -1,6 +1,6 @@
 -- What the grammar computes: tests of marks and bytes, the steps of the reading by bytes, and where it ends.
 use Rattle.std.specs.Prelude.{Bool, true, false, List, [], ◌∷◌, codes}
-use Rattle.formula.specs.Grammar.{flip, both, some, stands, ends, joins, Next, refuse, to, step, Verdict, whole, stuck, goes, opens, after, verdict}
+use Rattle.formula.specs.Grammar.{flip, both, some, stands, ends, joins, ByteEffect, refuse, to, step, TextVerdict, whole, stuck, goes, opens, after, verdict}
 use Rattle.cases_words.specs.Rows.{Row, gives, Shown}
 
 -- a truth value, which is not the other one
@@ -29,7 +29,7 @@ bits =
     []
 
 -- over two marks
-abbrev pub steps : List (Row Next)
+abbrev pub steps : List (Row ByteEffect)
 steps =
     -- an atom has to come: after 0, 1 and b it has; ! and ( want another, ( in a group of its own
     gives (step 2 true 0 48) (to false 0) (to true 0) ∷
@@ -51,7 +51,7 @@ steps =
     gives (step 2 false 1 33) refuse (to true 1) ∷
     []
 
-abbrev pub verdicts : List (Row Verdict)
+abbrev pub verdicts : List (Row TextVerdict)
 verdicts =
     -- with so many groups open, the bytes that are left, and the place of the first of them
     gives (goes 2 true 0 [] 4) (stuck 4) whole ∷

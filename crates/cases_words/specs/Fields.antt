@@ -1,13 +1,13 @@
 -- Reading the parts of a sheet, from place 10 on: bytes, numbers, texts, and what begins a sheet.
 use Rattle.std.specs.Prelude.{ℕ, ◌+◌, Bool, true, false, List, [], ◌∷◌, ◌++◌, codes}
 use Rattle.formula.specs.declared.FormulaFault.{FormulaFault}
-use Rattle.formula.specs.Grammar.{whole, stuck}
+use Rattle.formula.specs.Grammar.{whole, stuck, both}
 use Rattle.faults.specs.declared.layers.ByteFault.TheVariants.{Ends, Opening}
 use Rattle.faults.specs.declared.layers.RecordFault.TheVariants.{Byte, Formula, Absent}
 use Rattle.faults.specs.declared.layers.PortFault.{PortFault}
 use Rattle.faults.specs.declared.layers.PortFault.TheVariants.{Record, Count, Missing, Start}
 use Rattle.port.specs.declared.Header.{Header}
-use Rattle.reading.specs.Reading.{Step, got, fault, and_then, provided, byte, bytes, number, field, minutes, text_length, whole_text, judged, text, same, denied, both, absent, rises, low_limit, high_limit, present, map_limit, count, start_stage, opening_bytes, opening, heading}
+use Rattle.reading.specs.Reading.{Step, got, fault, and_then, provided, byte, bytes, number, field, minutes, text_length, whole_text, judged, text, same, denied, absent, rises, low_limit, high_limit, present, map_limit, count, start_stage, opening_bytes, opening, heading}
 use Rattle.cases_words.specs.Rows.{Row, gives, Shown}
 use Rattle.cases_words.specs.Limits.{not_not}
 use Rattle.cases_words.specs.Ports.{header}

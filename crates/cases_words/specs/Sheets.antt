@@ -1,14 +1,14 @@
 -- Sheets: how a port is written, how a sheet is read, and what is proved of the two.
 use Rattle.std.specs.Prelude.{◌≡◌, ℕ, Bool, true, false, List, [], ◌∷◌, ◌++◌, take, codes}
-use Rattle.formula.specs.Grammar.{Verdict, whole, stuck}
+use Rattle.formula.specs.Grammar.{TextVerdict, whole, stuck}
 use Rattle.faults.specs.declared.layers.ByteFault.TheVariants.{Opening}
 use Rattle.faults.specs.declared.layers.RecordFault.TheVariants.{Byte, Kind}
 use Rattle.faults.specs.declared.layers.PortFault.TheVariants.{Record, Sequence, Start}
 use Rattle.port.specs.Limits.{In}
 use Rattle.port.specs.Model.{Model, first}
 use Rattle.reading.specs.Reading.{Read, held, refused, finish, records, reading}
-use Rattle.reading.specs.SheetOf.{Bytes, number_bytes, minutes_bytes, text_bytes, bit_of, text_bit, condition_bytes, move_bytes, request_bytes, joined, records_of, header_of, sheet_of}
-use Rattle.reading.specs.Theorems.{Only, Judged}
+use Rattle.reading.specs.SheetOf.{Bytes, number_bytes, minutes_bytes, text_bytes, bit_of, text_bit, condition_bytes, move_bytes, request_bytes, concatenated, records_of, header_of, sheet_of}
+use Rattle.reading.specs.Theorems.{Only, GrammarAgrees}
 use Rattle.cases_words.specs.Rows.{Said, Row, gives, Shown}
 use Rattle.cases_words.specs.Limits.{move}
 use Rattle.cases_words.specs.Ports.{header, request, port, heads, go, back, quay, moved}
@@ -51,8 +51,8 @@ written =
     gives (move_bytes (move 0 1 0 5)) (2 ∷ 10 ∷ 1 ∷ 0 ∷ 5 ∷ []) (2 ∷ 10 ∷ 1 ∷ 5 ∷ []) ∷
     gives (request_bytes (request 0 0 (codes "1") (codes "1"))) (3 ∷ 0 ∷ []) (3 ∷ 12 ∷ 1 ∷ 49 ∷ 1 ∷ 49 ∷ []) ∷
     gives (request_bytes (request 1 2 (codes "a") (codes "!b"))) (3 ∷ 15 ∷ 1 ∷ 2 ∷ 1 ∷ 97 ∷ 2 ∷ 33 ∷ 98 ∷ []) (3 ∷ 15 ∷ 1 ∷ 2 ∷ 2 ∷ 33 ∷ 98 ∷ 1 ∷ 97 ∷ []) ∷
-    gives (joined number_bytes (4 ∷ 0 ∷ 5 ∷ [])) (4 ∷ 5 ∷ []) (4 ∷ 0 ∷ 5 ∷ []) ∷ gives (joined condition_bytes []) [] (1 ∷ 0 ∷ []) ∷
-    gives (joined condition_bytes (0 ∷ 1 ∷ [])) (1 ∷ 0 ∷ 1 ∷ 1 ∷ 1 ∷ []) (1 ∷ 1 ∷ 1 ∷ 1 ∷ 0 ∷ []) ∷
+    gives (concatenated number_bytes (4 ∷ 0 ∷ 5 ∷ [])) (4 ∷ 5 ∷ []) (4 ∷ 0 ∷ 5 ∷ []) ∷ gives (concatenated condition_bytes []) [] (1 ∷ 0 ∷ []) ∷
+    gives (concatenated condition_bytes (0 ∷ 1 ∷ [])) (1 ∷ 0 ∷ 1 ∷ 1 ∷ 1 ∷ []) (1 ∷ 1 ∷ 1 ∷ 1 ∷ 0 ∷ []) ∷
     -- the whole: header, conditions, moves, requests
     gives (header_of heads) quay_header (71 ∷ 65 ∷ 84 ∷ 69 ∷ 2 ∷ 4 ∷ 5 ∷ 2 ∷ 1 ∷ []) ∷
     gives (header_of (header 1 2 3 4 5)) (codes "GATE" ++ (1 ∷ 2 ∷ 3 ∷ 4 ∷ 5 ∷ [])) (1 ∷ 2 ∷ 3 ∷ 4 ∷ 5 ∷ []) ∷
@@ -148,10 +148,10 @@ OnliesHold = (r : OnlyRow) → In r onlies → Said r.holds (Only r.sheet r.port
 pub record JudgedRow : Type 0 where
   pub marks : ℕ
   pub text : List ℕ
-  pub verdict : Verdict
+  pub verdict : TextVerdict
   pub holds : Bool
 
-abbrev judged_row : Bool → ℕ → List ℕ → Verdict → JudgedRow
+abbrev judged_row : Bool → ℕ → List ℕ → TextVerdict → JudgedRow
 judged_row holds marks text verdict = record { marks = marks; text = text; verdict = verdict; holds = holds }
 
 abbrev pub judgements : List JudgedRow
@@ -166,7 +166,7 @@ judgements =
     []
 
 abbrev pub JudgementsHold : Type 0
-JudgementsHold = (r : JudgedRow) → In r judgements → Said r.holds (Judged r.marks r.text r.verdict)
+JudgementsHold = (r : JudgedRow) → In r judgements → Said r.holds (GrammarAgrees r.marks r.text r.verdict)
 
 -- Without their premises the theorems on sheets would be false: there are numbers that are no bytes and still tell a port, whose
 -- sheet they are not; there are ports that are not valid and whose sheet does not tell them.

@@ -5,7 +5,7 @@ use Rattle.port.specs.Model.{Model}
 use Rattle.port.specs.declared.Move.{Move}
 use Rattle.plans.specs.Plans.{Can}
 use Rattle.locks.specs.Places.{place_of, possible, IsAt, Leads}
-use Rattle.locks.specs.Works.{Worked as LockWorked}
+use Rattle.locks.specs.Works.{LockWorked}
 use Rattle.locks.proofs.Standing.{place_found, place_is, possible_means}
 use Rattle.solver.specs.declared.Entry.{Entry}
 use Rattle.solver.specs.declared.Entry.TheVariants.{Work}

@@ -4,12 +4,12 @@ use Rattle.port.specs.Model.{Model}
 use Rattle.port.specs.declared.Move.{Move}
 use Rattle.plans.specs.Flags.{task_at}
 use Rattle.locks.specs.Places.{place_of}
-use Rattle.locks.specs.Works.{Worked as LockWorked}
+use Rattle.locks.specs.Works.{LockWorked}
 use Rattle.solver.specs.Policy.{World}
 use Rattle.histories.specs.declared.Command.{Command}
 use Rattle.histories.specs.declared.Command.TheVariants.{Quote, Ask, Step, Close}
 use Rattle.histories.specs.Calls.{At, Passes, refusal, rules, cost_at, Took, quoted, granted, worked, closed, refused}
-use Rattle.histories.specs.Calls.{Answer as Told}
+use Rattle.histories.specs.Calls.{ExactAnswer}
 use Rattle.histories.specs.Refusals.{cannot_work}
 use Rattle.control.specs.declared.answer.Reply.{Reply}
 use Rattle.control.specs.declared.answer.Reply.TheVariants.{Quoted, Granted, Worked, Closed}
@@ -65,7 +65,7 @@ Does e w cs M a k (Ok (Closed s)) b =
     (q : ℕ) × ((k ≡ Close q) × Passes w (at_of cs a) (Close q) × (s ≡ (task_at w.domain q).to) × (b ≡ state s None a.marks))
 
 -- An answer of the program stands for one of a history: costs by their exact costs, a step by its move's operation, a refusal by its number.
-abbrev pub Shows : {K : Type 0} → (K → List ℕ) → Answer K → Told → Type 0
+abbrev pub Shows : {K : Type 0} → (K → List ℕ) → Answer K → ExactAnswer → Type 0
 Shows e (Ok (Quoted x)) t = t ≡ quoted (e x)
 Shows e (Ok (Granted x)) t = t ≡ granted (e x)
 Shows e (Ok (Worked o)) t = (m : Move) × ((t ≡ worked m) × (m.operation ≡ o))
@@ -74,7 +74,7 @@ Shows e (Err r) t = t ≡ refused (refusal_number r)
 
 -- The call is one of a history, with this answer.
 abbrev pub Did : {K : Type 0} → (K → List ℕ) → World → At → Command → Answer K → At → Type 0
-Did e w a k r b = (t : Told) × (Shows e r t × Took w a k t b)
+Did e w a k r b = (t : ExactAnswer) × (Shows e r t × Took w a k t b)
 
 -- A call's result as an answer: its value by the reply that it stands for, or its refusal.
 abbrev pub answer_of : {X K : Type 0} → (X → Reply K) → Result X Refusal → Answer K

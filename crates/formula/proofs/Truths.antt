@@ -4,7 +4,7 @@ use mathlib.Core.Bool.{false≢true}
 use native.Mathlib.Decide.{dec_lt}
 use lib.Bits.{bit_and}
 use Rattle.std.proofs.lemmas.Nat.{pow_pos, div_below}
-use Rattle.formula.specs.Grammar.{Part, atom, product, sum, Formula, Whole, Verdict, whole, stuck, verdict, nought, one, mark, not, group, single, and, only, or, both, some, stands}
+use Rattle.formula.specs.Grammar.{Part, atom, product, sum, Formula, Whole, TextVerdict, whole, stuck, verdict, nought, one, mark, not, group, single, and, only, or, both, some, stands}
 use Rattle.formula.specs.Truth.{Value, value, turned, joined, closed, followed, marked, read, held, truth, is_whole, is_formula}
 use Rattle.std.proofs.lemmas.List.{drop_all}
 use Rattle.formula.proofs.Steps.{at}
@@ -126,7 +126,7 @@ one_value n m t v w f g = sym (whole_truth n m t v f) ∙ whole_truth n m t w g
 pub whole_formula : (n m : ℕ) (t : List ℕ) (v : Bool) → Whole n m t v → is_formula n t ≡ true
 whole_formula n m t v w = ap is_whole (whole_verdict n m t v w)
 
-is_whole_of : (x : Verdict) → is_whole x ≡ true → x ≡ whole
+is_whole_of : (x : TextVerdict) → is_whole x ≡ true → x ≡ whole
 is_whole_of whole e = refl
 is_whole_of (stuck p) e = absurd (false≢true e)
 

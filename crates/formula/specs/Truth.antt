@@ -1,7 +1,7 @@
 -- The truth of a text on a set of marks, computed. Of a text that is no formula it says nothing.
 -- The grammar decides what a formula is and what it says (Grammar.antt); the two are proved to agree.
 use Rattle.std.specs.Prelude.{ℕ, zero, suc, ◌+◌, ◌-◌, ◌*◌, Bool, true, false, cond, List, [], ◌∷◌, length, ◌==◌, nat_le, nat_lt}
-use Rattle.formula.specs.Grammar.{Part, atom, product, sum, Verdict, whole, stuck, verdict, flip, both, some, stands}
+use Rattle.formula.specs.Grammar.{Part, atom, product, sum, TextVerdict, whole, stuck, verdict, flip, both, some, stands}
 use Rattle.formula.specs.Bytes.{nought_byte, one_byte, first_letter, not_byte, open_byte, close_byte, and_byte, or_byte}
 
 -- what a part of a text comes to: its value and the bytes after it, or nothing where no such part begins
@@ -54,7 +54,7 @@ held (value v t) = v
 unfoldable pub truth : ℕ → ℕ → List ℕ → Bool
 truth n m t = held (read (3 * length t + 3) sum n m t)
 
-abbrev pub is_whole : Verdict → Bool
+abbrev pub is_whole : TextVerdict → Bool
 is_whole whole = true
 is_whole (stuck p) = false
 

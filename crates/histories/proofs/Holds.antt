@@ -11,7 +11,7 @@ use Rattle.plans.specs.Flags.{task_at}
 use Rattle.costs.specs.Costs.{WeakLaws, Le}
 use Rattle.costs.proofs.Order.{weaken}
 use Rattle.solver.specs.Policy.{World, Solved}
-use Rattle.histories.specs.Calls.{At, Answer, quoted, granted, worked, closed, refused, entry_at, cost_at, rank_of, stuck, refusal, Took, Event, History, Passes, offered, placed, rule, Opens, open_rules, start_at}
+use Rattle.histories.specs.Calls.{At, ExactAnswer, quoted, granted, worked, closed, refused, entry_at, cost_at, rank_of, stuck, refusal, Took, Event, History, Passes, offered, placed, rule, Opens, open_rules, start_at}
 use Rattle.histories.specs.Errands.{Errand, onto, request_of, errands, left}
 use Rattle.histories.specs.Promise.{LeastInSimulations, Tells, Promised, PromiseHolds, OpeningHolds}
 use Rattle.histories.proofs.Basics.{was_true, not_false, some_inj, some_none, passes_clear, clear_passes, can_possible}
@@ -65,21 +65,21 @@ module _ (w : World) (laws : WeakLaws w.model) (wf : WellFormed w.domain) (sv : 
   stands es b (Some q) v = (v.spot, (v.at, v.inside))
 
   -- (2)
-  ask_granted : (b : At) (q : ℕ) → Passes w b (Ask q) → (r : Answer) (e : At) → Took w b (Ask q) r e → (f : List ℕ) × (r ≡ granted f)
+  ask_granted : (b : At) (q : ℕ) → Passes w b (Ask q) → (r : ExactAnswer) (e : At) → Took w b (Ask q) r e → (f : List ℕ) × (r ≡ granted f)
   ask_granted b q p (refused n) e t = absurd (some_none (sym t.0 ∙ p))
   ask_granted b q p (granted f) e t = (f, refl)
   ask_granted b q p (quoted f) e t = absurd (let y : Ask q ≡ Quote t.0 = t.1.0 in let z : ◌≡◌ {A = ℕ} 0 1 = cc in omega arith)
   ask_granted b q p (worked m) e t = absurd (let y : Ask q ≡ Step t.0 = t.3.0 in let z : ◌≡◌ {A = ℕ} 0 1 = cc in omega arith)
   ask_granted b q p (closed s) e t = absurd (let y : Ask q ≡ Close t.0 = t.1.0 in let z : ◌≡◌ {A = ℕ} 0 1 = cc in omega arith)
 
-  step_worked : (b : At) (q : ℕ) → Passes w b (Step q) → (r : Answer) (e : At) → Took w b (Step q) r e → (m : Move) × (r ≡ worked m)
+  step_worked : (b : At) (q : ℕ) → Passes w b (Step q) → (r : ExactAnswer) (e : At) → Took w b (Step q) r e → (m : Move) × (r ≡ worked m)
   step_worked b q p (refused n) e t = absurd (some_none (sym t.0 ∙ p))
   step_worked b q p (worked m) e t = (m, refl)
   step_worked b q p (quoted f) e t = absurd (let y : Step q ≡ Quote t.0 = t.1.0 in let z : ◌≡◌ {A = ℕ} 0 1 = cc in omega arith)
   step_worked b q p (granted f) e t = absurd (let y : Step q ≡ Ask t.0 = t.1.0 in let z : ◌≡◌ {A = ℕ} 0 1 = cc in omega arith)
   step_worked b q p (closed s) e t = absurd (let y : Step q ≡ Close t.0 = t.1.0 in let z : ◌≡◌ {A = ℕ} 0 1 = cc in omega arith)
 
-  close_closed : (b : At) (q : ℕ) → Passes w b (Close q) → (r : Answer) (e : At) → Took w b (Close q) r e → (s : ℕ) × (r ≡ closed s)
+  close_closed : (b : At) (q : ℕ) → Passes w b (Close q) → (r : ExactAnswer) (e : At) → Took w b (Close q) r e → (s : ℕ) × (r ≡ closed s)
   close_closed b q p (refused n) e t = absurd (some_none (sym t.0 ∙ p))
   close_closed b q p (closed s) e t = (s, refl)
   close_closed b q p (quoted f) e t = absurd (let y : Close q ≡ Quote t.0 = t.1.0 in let z : ◌≡◌ {A = ℕ} 0 1 = cc in omega arith)
@@ -113,20 +113,20 @@ module _ (w : World) (laws : WeakLaws w.model) (wf : WellFormed w.domain) (sv : 
       close_passes w b q out (record { known = x.known; from = x.from; spot = x.spot; at = x.at; inside = x.inside }) there
 
   -- (3)
-  keeps : (a b : At) (k : Command) (r : Answer) → Took w a k r b → (m : Move) → r ≡ worked m →
+  keeps : (a b : At) (k : Command) (r : ExactAnswer) → Took w a k r b → (m : Move) → r ≡ worked m →
       (q c : ℕ) × ((k ≡ Step q) × (a.place ≡ Some c) × ((task_at w.domain q).keep c ≡ true))
   keeps a b k r t m is =
-      let t2 : Took w a k (worked m) b = subst (λ (y : Answer). Took w a k y b) is t in
+      let t2 : Took w a k (worked m) b = subst (λ (y : ExactAnswer). Took w a k y b) is t in
       let q : ℕ = t2.0 in
       let c : ℕ = t2.1 in
       let p = (step_met w a q t2.3.1).1 in
       let hc : c < w.domain.conditions = subst (λ (y : ℕ). y < w.domain.conditions) (some_inj (sym p.at ∙ t2.3.2)) p.inside in
       (q, c, (t2.3.0, t2.3.2, work_keep w sv laws q p.known c t2.2 hc t2.3.3))
 
-  reaches : (a b : At) (k : Command) (r : Answer) → Took w a k r b → (s : ℕ) → r ≡ closed s →
+  reaches : (a b : At) (k : Command) (r : ExactAnswer) → Took w a k r b → (s : ℕ) → r ≡ closed s →
       (q c : ℕ) × ((k ≡ Close q) × (a.place ≡ Some c) × ((task_at w.domain q).reach c ≡ true))
   reaches a b k r t s is =
-      let t2 : Took w a k (closed s) b = subst (λ (y : Answer). Took w a k y b) is t in
+      let t2 : Took w a k (closed s) b = subst (λ (y : ExactAnswer). Took w a k y b) is t in
       let q : ℕ = t2.0 in
       let m = close_met w a q t2.1.1 in
       let p = m.1 in
@@ -145,14 +145,14 @@ module _ (w : World) (laws : WeakLaws w.model) (wf : WellFormed w.domain) (sv : 
       let best2 : LeastInSimulations w q c f = subst (λ (y : List ℕ). LeastInSimulations w q c y) (sym same) best in
       (c, (p.at, subst (λ (y : ℕ). LeastInSimulations w y c f) (sym rq) best2))
 
-  quotes : (a b : At) (k : Command) (r : Answer) → Took w a k r b → (f : List ℕ) → Tells r f →
+  quotes : (a b : At) (k : Command) (r : ExactAnswer) → Took w a k r b → (f : List ℕ) → Tells r f →
       (c : ℕ) × ((a.place ≡ Some c) × LeastInSimulations w (request_of k) c f)
   quotes a b k r t f (inl is) =
-      let t2 : Took w a k (quoted f) b = subst (λ (y : Answer). Took w a k y b) is t in
+      let t2 : Took w a k (quoted f) b = subst (λ (y : ExactAnswer). Took w a k y b) is t in
       let m = quote_met w a t2.0 t2.1.1 in
       told a t2.0 f k (ap request_of t2.1.0) m.0 (something _ m.1) t2.1.2
   quotes a b k r t f (inr is) =
-      let t2 : Took w a k (granted f) b = subst (λ (y : Answer). Took w a k y b) is t in
+      let t2 : Took w a k (granted f) b = subst (λ (y : ExactAnswer). Took w a k y b) is t in
       let m = ask_met w a t2.0 t2.1.1 in
       told a t2.0 f k (ap request_of t2.1.0) m.1 (something _ m.2) t2.1.2
 

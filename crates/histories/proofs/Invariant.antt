@@ -11,7 +11,7 @@ use Rattle.plans.proofs.Index.{in_at}
 use Rattle.costs.specs.Costs.{WeakLaws, Sized, Le}
 use Rattle.costs.proofs.Order.{reflexive}
 use Rattle.solver.specs.Policy.{World, Safe, Solved}
-use Rattle.histories.specs.Calls.{At, Answer, quoted, granted, worked, closed, refused, entry_at, cost_at, Took, Event, History}
+use Rattle.histories.specs.Calls.{At, ExactAnswer, quoted, granted, worked, closed, refused, entry_at, cost_at, Took, Event, History}
 use Rattle.histories.specs.Errands.{Errand, onto, request_of, moved, ended, noted, errands_after}
 use Rattle.histories.proofs.Basics.{some_inj}
 use Rattle.histories.proofs.Joins.{onto_sized, onto_keeps, onto_more}
@@ -82,7 +82,7 @@ module _ (w : World) (laws : WeakLaws w.model) (wf : WellFormed w.domain) (sv : 
       let t = k.1.closed s c k.2 (task_at w.domain q) (in_at w.domain.tasks q _ hq) from in
       (t.0, inside_safe w q c k.0 t.0 k.1 (t.1, t.2))
 
-  pub after : (es : List Errand) (a b : At) (k : Command) (r : Answer) → Inv w es a → Took w a k r b → Inv w (noted k r es) b
+  pub after : (es : List Errand) (a b : At) (k : Command) (r : ExactAnswer) → Inv w es a → Took w a k r b → Inv w (noted k r es) b
   after es a b k (refused n) h t = subst (λ (y : At). Inv w es y) (sym t.1) h
   after es a b k (quoted f) h t = subst (λ (y : At). Inv w es y) (sym t.1.3) h
   after es a b k (granted f) h t =

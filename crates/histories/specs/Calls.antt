@@ -19,12 +19,12 @@ pub record At : Type 0 where
 
 -- What a call is answered: a quote by its exact cost, a grant by its quote, the move that a step made, the stage that a close goes on to,
 -- or a refusal by its number.
-pub data Answer : Type 0 where
-  quoted : List ℕ → Answer
-  granted : List ℕ → Answer
-  worked : Move → Answer
-  closed : ℕ → Answer
-  refused : ℕ → Answer
+pub data ExactAnswer : Type 0 where
+  quoted : List ℕ → ExactAnswer
+  granted : List ℕ → ExactAnswer
+  worked : Move → ExactAnswer
+  closed : ℕ → ExactAnswer
+  refused : ℕ → ExactAnswer
 
 -- A rule of refusal: its number, and whether it refuses the call.
 pub record Rule : Type 0 where
@@ -117,7 +117,7 @@ Passes w a k = refusal (rules w a k) ≡ None
 
 -- One call over a lock of the same port: where it finds controller and lock, what is asked, what is answered, and where it leaves them.
 -- A refusal changes nothing. A step makes one of the moves that the policy's operation may make where the lock stands.
-abbrev pub Took : World → At → Command → Answer → At → Type 0
+abbrev pub Took : World → At → Command → ExactAnswer → At → Type 0
 Took w a k (refused n) b = (refusal (rules w a k) ≡ Some n) × (b ≡ a)
 Took w a k (quoted f) b = (q : ℕ) × ((k ≡ Quote q) × Passes w a (Quote q) × (f ≡ cost_at w q a.place) × (b ≡ a))
 Took w a k (granted f) b =
@@ -134,7 +134,7 @@ Took w a k (closed s) b =
 pub record Event : Type 0 where
   pub before : At
   pub command : Command
-  pub answer : Answer
+  pub answer : ExactAnswer
   pub after : At
 
 -- Calls one after another, from a to b.

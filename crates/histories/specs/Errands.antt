@@ -5,7 +5,7 @@ use Rattle.costs.specs.Costs.{Model}
 use Rattle.solver.specs.Policy.{World}
 use Rattle.histories.specs.declared.Command.{Command}
 use Rattle.histories.specs.declared.Command.TheVariants.{Quote, Ask, Step, Close}
-use Rattle.histories.specs.Calls.{At, Answer, quoted, granted, worked, closed, refused, Event, cost_at}
+use Rattle.histories.specs.Calls.{At, ExactAnswer, quoted, granted, worked, closed, refused, Event, cost_at}
 
 -- One grant: its request, its exact quote, the moves of its accepted steps in order, and whether it is still out.
 pub record Errand : Type 0 where
@@ -32,7 +32,7 @@ ended [] = []
 ended (e ∷ es) = record { request = e.request; quote = e.quote; moves = e.moves; out = false } ∷ es
 
 -- The errands after one call more, the newest first: a grant begins one, a step adds its move, a close ends it.
-abbrev pub noted : Command → Answer → List Errand → List Errand
+abbrev pub noted : Command → ExactAnswer → List Errand → List Errand
 noted k (quoted f) es = es
 noted k (granted f) es = record { request = request_of k; quote = f; moves = []; out = true } ∷ es
 noted k (worked m) es = moved m es

@@ -9,7 +9,7 @@ use Rattle.costs.specs.Costs.{Laws, Le}
 use Rattle.solver.specs.declared.Entry.TheVariants.{There}
 use Rattle.solver.specs.Policy.{World, Price, Solved}
 use Rattle.histories.specs.declared.Command.TheVariants.{Ask, Step, Close}
-use Rattle.histories.specs.Calls.{At, Answer, quoted, granted, worked, closed, Took, Event, History, offered, entry_at, refusal, open_rules, start_at, Opens}
+use Rattle.histories.specs.Calls.{At, ExactAnswer, quoted, granted, worked, closed, Took, Event, History, offered, entry_at, refusal, open_rules, start_at, Opens}
 use Rattle.histories.specs.Refusals.{dropped}
 use Rattle.histories.specs.Errands.{Errand, errands, left, onto, request_of}
 
@@ -25,7 +25,7 @@ pub record LeastInSimulations (w : World) (q c : ℕ) (f : List ℕ) : Type 0 wh
       (g : List ℕ) × Price w plan c g × Le w.model f g
 
 -- An answer that tells a quote.
-abbrev pub Tells : Answer → List ℕ → Type 0
+abbrev pub Tells : ExactAnswer → List ℕ → Type 0
 Tells r f = (r ≡ quoted f) ⊎ (r ≡ granted f)
 
 -- The promise of a history h that has come to b.
@@ -36,13 +36,13 @@ pub record Promise (w : World) (h : List Event) (b : At) : Type 0 where
   pub spends : (e : Errand) → In e (errands h) → Le w.model (onto w.model e.moves (left w b e)) e.quote
   -- with no grant out every request of the stage is granted when it is asked
   pub grants : b.out ≡ None → (q : ℕ) → offered w b.stage q ≡ true →
-      (r : Answer) (e : At) → Took w b (Ask q) r e → (f : List ℕ) × (r ≡ granted f)
+      (r : ExactAnswer) (e : At) → Took w b (Ask q) r e → (f : List ℕ) × (r ≡ granted f)
   -- with one out its step is accepted where the entry is not There
   pub steps : (q : ℕ) → b.out ≡ Some q → (entry_at w q b.place ≢ There) →
-      (r : Answer) (e : At) → Took w b (Step q) r e → (m : Move) × (r ≡ worked m)
+      (r : ExactAnswer) (e : At) → Took w b (Step q) r e → (m : Move) × (r ≡ worked m)
   -- and its close where it is
   pub closes : (q : ℕ) → b.out ≡ Some q → entry_at w q b.place ≡ There →
-      (r : Answer) (e : At) → Took w b (Close q) r e → (s : ℕ) × (r ≡ closed s)
+      (r : ExactAnswer) (e : At) → Took w b (Close q) r e → (s : ℕ) × (r ≡ closed s)
   -- every accepted step began where keep held
   pub keeps : (e : Event) → In e h → (m : Move) → e.answer ≡ worked m →
       (q c : ℕ) × ((e.command ≡ Step q) × (e.before.place ≡ Some c) × ((task_at w.domain q).keep c ≡ true))

@@ -10,7 +10,7 @@ use Rattle.port.specs.Model.{Model}
 use Rattle.port.specs.declared.Move.{Move}
 use Rattle.plans.specs.Plans.{Possible}
 use Rattle.locks.specs.Places.{IsAt, next, place_of, fits, possible}
-use Rattle.locks.specs.Works.{Told}
+use Rattle.locks.specs.Works.{TellsCondition}
 
 none_some : {A : Type 0} (n : ℕ) → None ≡ Some n → A
 none_some n e = let z : ◌≡◌ {A = ℕ} 0 1 = cc in absurd (omega arith)
@@ -120,10 +120,10 @@ possible_there ms c o t = go ms t.0 t.1.0 t.1.1 t.1.2
 
 -- ── what is told ──
 
-pub told : (M : Model) (m : ℕ) (r : Bool) → r ≡ is_some (place_of M.conditions m) → Told M m r
+pub told : (M : Model) (m : ℕ) (r : Bool) → r ≡ is_some (place_of M.conditions m) → TellsCondition M m r
 told M m r e = go (place_of M.conditions m) refl
   where
-    go : (p : Option ℕ) → place_of M.conditions m ≡ p → Told M m r
+    go : (p : Option ℕ) → place_of M.conditions m ≡ p → TellsCondition M m r
     go None q = record {
       yes = λ t. absurd (false≢true (sym (e ∙ ap is_some q) ∙ t));
       not = λ f c a. place_none M.conditions m q c a.0 a.1;

@@ -7,13 +7,13 @@ use Rattle.plans.specs.Plans.{Possible}
 use Rattle.locks.specs.Places.{IsAt, Leads, fits}
 
 -- It is told truly whether the marks m are those of a condition of the port.
-pub record Told (M : Model) (m : ℕ) (r : Bool) : Type 0 where
+pub record TellsCondition (M : Model) (m : ℕ) (r : Bool) : Type 0 where
   pub yes : r ≡ true → (c : ℕ) × IsAt M c m
   pub not : r ≡ false → (c : ℕ) → IsAt M c m → ⊥
 
 -- A lock with the marks m is worked with operation o: it accepts or not, and then has the marks m'. Where it accepts, these are the
 -- marks of an outcome; it refuses where m is no condition, or o is not possible there, and nowhere else, and keeps its marks then.
-pub record Worked (M : Model) (m o : ℕ) (accepted : Bool) (m' : ℕ) : Type 0 where
+pub record LockWorked (M : Model) (m o : ℕ) (accepted : Bool) (m' : ℕ) : Type 0 where
   pub accepts : accepted ≡ true → (c d : ℕ) × (IsAt M c m × Leads M c o d × IsAt M d m')
   pub refuses : accepted ≡ false → (m' ≡ m) × ((c : ℕ) → IsAt M c m → Possible M.moves c o → ⊥)
 

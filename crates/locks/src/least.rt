@@ -2,7 +2,7 @@
 ghost use Rattle.std.specs.Prelude.{◌≡◌, true};
 ghost use Rattle.port.specs.Model.{model_of};
 ghost use Rattle.locks.specs.Targets.{Goes, GoesLeast, Nearest};
-ghost use Rattle.locks.specs.Works.{Worked, WorkedLeast, change, outcomes};
+ghost use Rattle.locks.specs.Works.{LockWorked, WorkedLeast, change, outcomes};
 
 use crate::lock::Lock;
 use crate::places::{condition_of, marks_of, moves_of};
@@ -74,7 +74,7 @@ impl<'a> Lock for LeastChangeLock<'a> {
 
     fn work(&mut self, operation: u8) -> bool
         ensures kept { model_of self.new.port.now ≡ model_of self.old.port.now }
-        ensures worked { Worked (model_of self.old.port.now) self.old.marks operation result self.new.marks }
+        ensures worked { LockWorked (model_of self.old.port.now) self.old.marks operation result self.new.marks }
         ensures port { self.new.port ≡ self.old.port }
         ensures least { result ≡ true → WorkedLeast (model_of self.old.port.now) self.old.marks operation self.new.marks }
     {

@@ -1,7 +1,7 @@
 // What a lock is to whoever works it.
 ghost use Rattle.std.specs.Prelude.{◌≡◌, ℕ};
 ghost use Rattle.port.specs.Model.{Model};
-ghost use Rattle.locks.specs.Works.{Told, Worked};
+ghost use Rattle.locks.specs.Works.{LockWorked, TellsCondition};
 
 pub trait Lock {
     // The port that the lock belongs to, and its present marks.
@@ -20,10 +20,10 @@ pub trait Lock {
 
     // Whether these marks are those of a condition of the port.
     fn is_condition(&self, marks: u16) -> bool
-        ensures { Told (home self.now) marks result };
+        ensures { TellsCondition (home self.now) marks result };
 
     // Works an operation, and tells whether it was accepted.
     fn work(&mut self, operation: u8) -> bool
         ensures kept { home self.new ≡ home self.old }
-        ensures worked { Worked (home self.old) (present self.old) operation result (present self.new) };
+        ensures worked { LockWorked (home self.old) (present self.old) operation result (present self.new) };
 }

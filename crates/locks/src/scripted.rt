@@ -2,7 +2,7 @@
 ghost use Rattle.std.specs.Prelude.{◌≡◌, ℕ, true, false, drop, map as mapped, slice_index};
 ghost use Rattle.port.specs.Model.{model_of};
 ghost use Rattle.locks.specs.Targets.{Goes, GoesNth, named_by};
-ghost use Rattle.locks.specs.Works.{InOrder, Worked, WorkedNth};
+ghost use Rattle.locks.specs.Works.{InOrder, LockWorked, WorkedNth};
 
 use crate::lock::Lock;
 use crate::places::{condition_of, marks_of, moves_of};
@@ -73,7 +73,7 @@ impl<'a> Lock for ScriptedLock<'a> {
 
     fn work(&mut self, operation: u8) -> bool
         ensures kept { model_of self.new.port.now ≡ model_of self.old.port.now }
-        ensures worked { Worked (model_of self.old.port.now) self.old.marks operation result self.new.marks }
+        ensures worked { LockWorked (model_of self.old.port.now) self.old.marks operation result self.new.marks }
         ensures port { self.new.port ≡ self.old.port }
         ensures named { result ≡ true → WorkedNth (model_of self.old.port.now) self.old.marks operation (slice_index self.old.script.now 0) self.new.marks }
         ensures drawn { result ≡ true → self.new.script.now ≡ drop 1 self.old.script.now }

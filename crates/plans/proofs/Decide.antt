@@ -6,7 +6,7 @@ use Rattle.port.specs.declared.Move.{Move}
 use Rattle.plans.specs.Plans.{stop, Can, Within}
 use Rattle.plans.specs.Simulation.{Domain, WellFormed, InRange, Holds, Serves, ServesRow, Kept}
 use Rattle.plans.specs.Iterate.{Iterates}
-use Rattle.plans.specs.Reach.{Attainable, Steps, Member, Closed, some, each, leads, steps, grown, attains, reached, aim, serves, left}
+use Rattle.plans.specs.Reach.{Attainable, Steps, Member, Closed, any_of, each, leads, steps, grown, attains, reached, aim, serves, left_after}
 use Rattle.plans.specs.Flags.{bit}
 use Rattle.plans.specs.Theorems.{ReachedAttains}
 use Rattle.plans.proofs.Attain.{aim_meets, stop_attains, step_attains, closed_has}
@@ -32,19 +32,19 @@ pub implies : (a b : Bool) → ((not a || b) ≡ true) ↔ (a ≡ true → b ≡
 implies true b = (λ e t. e, λ f. f refl)
 implies false b = (λ e t. absurd (false≢true t), λ f. refl)
 
-pub some_in : {A : Type 0} (p : A → Bool) (xs : List A) → some p xs ≡ true → (x : A) × In x xs × (p x ≡ true)
+pub some_in : {A : Type 0} (p : A → Bool) (xs : List A) → any_of p xs ≡ true → (x : A) × In x xs × (p x ≡ true)
 some_in p [] e = absurd (false≢true e)
-some_in {A} p (x ∷ xs) e = go (or_cases (p x) (some p xs) e) (some_in p xs)
+some_in {A} p (x ∷ xs) e = go (or_cases (p x) (any_of p xs) e) (some_in p xs)
   where
-    go : (p x ≡ true) ⊎ (some p xs ≡ true) → (some p xs ≡ true → (y : A) × In y xs × (p y ≡ true)) →
+    go : (p x ≡ true) ⊎ (any_of p xs ≡ true) → (any_of p xs ≡ true → (y : A) × In y xs × (p y ≡ true)) →
         (y : A) × ((y ≡ x) ⊎ In y xs) × (p y ≡ true)
     go (inl h) below = (x, inl refl, h)
     go (inr h) below = let t = below h in (t.0, inr t.1, t.2)
 
-pub in_some : {A : Type 0} (p : A → Bool) (x : A) (xs : List A) → In x xs → p x ≡ true → some p xs ≡ true
+pub in_some : {A : Type 0} (p : A → Bool) (x : A) (xs : List A) → In x xs → p x ≡ true → any_of p xs ≡ true
 in_some p x [] i e = absurd i
-in_some p x (y ∷ ys) (inl q) e = or_left (p y) (some p ys) (ap p (sym q) ∙ e)
-in_some p x (y ∷ ys) (inr i) e = or_right (p y) (some p ys) (in_some p x ys i e)
+in_some p x (y ∷ ys) (inl q) e = or_left (p y) (any_of p ys) (ap p (sym q) ∙ e)
+in_some p x (y ∷ ys) (inr i) e = or_right (p y) (any_of p ys) (in_some p x ys i e)
 
 pub each_in : {A : Type 0} (p : A → Bool) (xs : List A) → each p xs ≡ true → (x : A) → In x xs → p x ≡ true
 each_in p [] e x i = absurd i
@@ -75,7 +75,7 @@ leads_iff moves G c o = (
 pub steps_iff : (moves : List Move) (keep G : ℕ → Bool) (c : ℕ) → (steps moves keep G c ≡ true) ↔ Steps moves keep (Member G) c
 steps_iff moves keep G c = (
   λ e.
-      let b = (and-eq-true_iff (keep c) (some test moves)).0 e in
+      let b = (and-eq-true_iff (keep c) (any_of test moves)).0 e in
       let t = some_in test moves b.1 in
       let m = t.0 in
       let d = (and-eq-true_iff (eqb m.condition c) (leads moves G c m.operation)).0 t.2 in
@@ -83,7 +83,7 @@ steps_iff moves keep G c = (
   λ h.
       let m = h.2.0 in
       let can = h.2.1 in
-      (and-eq-true_iff (keep c) (some test moves)).1 (
+      (and-eq-true_iff (keep c) (any_of test moves)).1 (
         h.1,
         in_some test m moves can.0
             ((and-eq-true_iff (eqb m.condition c) (leads moves G c m.operation)).1 (
@@ -213,13 +213,13 @@ serves_same D wf R S same s c h =
     (λ e. (serves_decided D wf R s c h).1
     (serves_mono_in D wf (Holds S) (Holds R) (λ t d a b f. same t d (a, b) ∙ f) s c h ((serves_decided D wf S s c h).0 e)))
 
-pub left_iterates : (D : Domain) → WellFormed D → Iterates D (left D)
-left_iterates D wf = record { start = λ s c r. refl; step = λ k s c r. serves_decided D wf (left D k) s c r.1 }
+pub left_iterates : (D : Domain) → WellFormed D → Iterates D (left_after D)
+left_iterates D wf = record { start = λ s c r. refl; step = λ k s c r. serves_decided D wf (left_after D k) s c r.1 }
 
 -- What serves as many requests in a row as there are pairs serves them for ever.
 pub row_kept : (D : Domain) → WellFormed D → (s c : ℕ) → InRange D s c → ServesRow D (D.stages * D.conditions) s c → Kept D s c
 row_kept D wf s c r b =
     let it = left_iterates D wf in
-    let t = stable_soon D wf (left D) it in
-    (stable_kept D wf (left D) it t.0 t.2 s c r).0
-    ((iteration_row D wf (left D) it t.0 s c r).1 (row_le D t.0 (D.stages * D.conditions) s c t.1 b))
+    let t = stable_soon D wf (left_after D) it in
+    (stable_kept D wf (left_after D) it t.0 t.2 s c r).0
+    ((iteration_row D wf (left_after D) it t.0 s c r).1 (row_le D t.0 (D.stages * D.conditions) s c t.1 b))

@@ -21,9 +21,9 @@ pub record Closed (n : ℕ) (moves : List Move) (keep goal G : ℕ → Bool) : T
   pub goals : (c : ℕ) → c < n → Member goal c → Member G c
   pub steps : (c : ℕ) → c < n → Steps moves keep (Member G) c → Member G c
 
-abbrev pub some : {A : Type 0} → (A → Bool) → List A → Bool
-some p [] = false
-some p (x ∷ xs) = p x || some p xs
+abbrev pub any_of : {A : Type 0} → (A → Bool) → List A → Bool
+any_of p [] = false
+any_of p (x ∷ xs) = p x || any_of p xs
 
 abbrev pub each : {A : Type 0} → (A → Bool) → List A → Bool
 each p [] = true
@@ -34,7 +34,7 @@ abbrev pub leads : List Move → (ℕ → Bool) → ℕ → ℕ → Bool
 leads moves G c o = each (λ m. not (m.condition == c && m.operation == o) || G m.outcome) moves
 
 abbrev pub steps : List Move → (ℕ → Bool) → (ℕ → Bool) → ℕ → Bool
-steps moves keep G c = keep c && some (λ m. (m.condition == c) && leads moves G c m.operation) moves
+steps moves keep G c = keep c && any_of (λ m. (m.condition == c) && leads moves G c m.operation) moves
 
 -- The goals, and k times what steps into what is there.
 abbrev pub grown : List Move → (ℕ → Bool) → (ℕ → Bool) → ℕ → ℕ → Bool
@@ -56,6 +56,6 @@ abbrev pub serves : Domain → (ℕ → ℕ → Bool) → ℕ → ℕ → Bool
 serves D R s c = each (λ q. not (q.from == s) || reached D q.keep (aim R q) c) D.tasks
 
 -- The pairs that are left after k steps.
-abbrev pub left : Domain → ℕ → ℕ → ℕ → Bool
-left D zero s c = true
-left D (suc k) s c = serves D (left D k) s c
+abbrev pub left_after : Domain → ℕ → ℕ → ℕ → Bool
+left_after D zero s c = true
+left_after D (suc k) s c = serves D (left_after D k) s c

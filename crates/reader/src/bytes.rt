@@ -1,8 +1,9 @@
 // Bytes, one after another.
 ghost use Rattle.std.specs.Prelude.{◌≡◌, ◌+◌, ◌<◌, ◌≤◌, IfOk, nat_le, nat_lt};
+ghost use Rattle.formula.specs.Grammar.{both};
 ghost use Rattle.faults.specs.declared.layers.PortFault.TheVariants.{Record};
 ghost use Rattle.faults.specs.declared.layers.RecordFault.TheVariants.{Byte};
-ghost use Rattle.reading.specs.Reading.{both, byte, bytes};
+ghost use Rattle.reading.specs.Reading.{byte, bytes};
 ghost use Rattle.reader.specs.Reads.{Reads, counted, itself};
 
 use crate::reader::Reader;

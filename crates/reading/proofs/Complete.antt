@@ -1,12 +1,12 @@
 -- The bytes of a record that may follow are read as that record.
 use Rattle.std.proofs.Common.{◌≡◌, ℕ, zero, suc, ◌+◌, ◌*◌, ◌/◌, ◌%◌, ◌<◌, ◌≤◌, Bool, true, false, cond, eqb, ltb, leb, List, [], ◌∷◌, ◌++◌, length, sym, refl, ap, ◌∙◌, subst, append_assoc, append-nil, arith, length-append, lt-ltb, le-leb}
 use lib.Seq.{take-append_seam, drop-append_seam}
-use Rattle.formula.specs.Grammar.{verdict}
+use Rattle.formula.specs.Grammar.{verdict, both}
 use Rattle.port.specs.declared.Move.{Move}
 use Rattle.port.specs.Model.{Model, RequestModel}
-use Rattle.reading.specs.Reading.{Step, got, and_then, byte, bytes, number, field, minutes, text_length, whole_text, text, absent, same, denied, both, rises, low_limit, high_limit, condition, move, request, follows, room, map_limit, Head, admitted, head, body, entry, opening_bytes, opening, count, start_stage, heading, Entry, condition_entry, move_entry, request_entry, add, held, records, reading}
+use Rattle.reading.specs.Reading.{Step, got, and_then, byte, bytes, number, field, minutes, text_length, whole_text, text, absent, same, denied, rises, low_limit, high_limit, condition, move, request, follows, room, map_limit, Head, admitted, head, body, entry, opening_bytes, opening, count, start_stage, heading, Entry, condition_entry, move_entry, request_entry, add, held, records, reading}
 use mathlib.Core.List as List
-use Rattle.reading.specs.SheetOf.{number_bytes, minutes_bytes, text_bytes, bit_of, text_bit, condition_bytes, move_bytes, request_bytes, joined, records_of, header_of, sheet_of}
+use Rattle.reading.specs.SheetOf.{number_bytes, minutes_bytes, text_bytes, bit_of, text_bit, condition_bytes, move_bytes, request_bytes, concatenated, records_of, header_of, sheet_of}
 use Rattle.port.specs.Limits.{TextOk, key}
 use Rattle.port.specs.Valid.{Valid}
 use Rattle.reading.proofs.Limited.{Conditions, Moves, Requests, conditions_one_by_one, moves_one_by_one, requests_one_by_one, formula_whole}
@@ -185,42 +185,42 @@ come_step m m'' e b tail rest fuel n p some le g f =
     let one = comes_one m e fuel n p (b ++ (tail ++ rest)) (tail ++ rest) (simp length-append (omega arith)) (subst (λ x. length x ≤ fuel) line le) g in
     subst (λ x. Comes m m'' fuel n p x rest) (sym line) (comes_on m (add m e) m'' fuel n p (b ++ (tail ++ rest)) (tail ++ rest) rest one (f one.more one.count one.place one.enough))
 
-conditions_come : (h : Header) (old cs : List ℕ) (fuel n p : ℕ) (rest : List ℕ) → Conditions h.marks old cs → length (joined condition_bytes cs ++ rest) ≤ fuel → Comes (model h old [] []) (model h (old ++ cs) [] []) fuel n p (joined condition_bytes cs ++ rest) rest
-unfolding joined add body
+conditions_come : (h : Header) (old cs : List ℕ) (fuel n p : ℕ) (rest : List ℕ) → Conditions h.marks old cs → length (concatenated condition_bytes cs ++ rest) ≤ fuel → Comes (model h old [] []) (model h (old ++ cs) [] []) fuel n p (concatenated condition_bytes cs ++ rest) rest
+unfolding concatenated add body
 conditions_come h old [] fuel n p rest ok le = rw (append-nil old) (comes_none _ fuel n p rest le)
 conditions_come h old (c ∷ cs) fuel n p rest ok le =
     let s0 = bit_small (c % 256) in
     let s1 = bit_small (c / 256) in
-    let tail = joined condition_bytes cs ++ rest in
-    come_step (model h old [] []) (model h (old ++ c ∷ cs) [] []) (condition_entry c) (condition_bytes c) (joined condition_bytes cs) rest fuel n p (omega arith) le
+    let tail = concatenated condition_bytes cs ++ rest in
+    come_step (model h old [] []) (model h (old ++ c ∷ cs) [] []) (condition_entry c) (condition_bytes c) (concatenated condition_bytes cs) rest fuel n p (omega arith) le
     (entry_gets (model h old [] []) 1 (bit_of (c % 256) + 2 * bit_of (c / 256)) p ((number_bytes (c % 256) ++ number_bytes (c / 256)) ++ tail) (condition_entry c) tail refl (lt-ltb (length old) 256 ok.0) (omega arith)
     (λ at map_at q. then_gets _ _ c tail (condition_entry c) tail (condition_gets (model h old [] []) at map_at c q tail ok.1 ok.2 ok.3) (λ q'. (q', refl))))
     (λ f k o l. subst (λ x. Comes (model h (old ++ c ∷ []) [] []) (model h x [] []) f k o tail rest) (append_assoc old (c ∷ []) cs) (conditions_come h (old ++ c ∷ []) cs f k o rest ok.4 l))
 
-moves_come : (h : Header) (cs : List ℕ) (old vs : List Move) (fuel n p : ℕ) (rest : List ℕ) → Moves h.operations (length cs) old vs → length (joined move_bytes vs ++ rest) ≤ fuel → Comes (model h cs old []) (model h cs (old ++ vs) []) fuel n p (joined move_bytes vs ++ rest) rest
-unfolding joined add body
+moves_come : (h : Header) (cs : List ℕ) (old vs : List Move) (fuel n p : ℕ) (rest : List ℕ) → Moves h.operations (length cs) old vs → length (concatenated move_bytes vs ++ rest) ≤ fuel → Comes (model h cs old []) (model h cs (old ++ vs) []) fuel n p (concatenated move_bytes vs ++ rest) rest
+unfolding concatenated add body
 moves_come h cs old [] fuel n p rest ok le = rw (append-nil old) (comes_none _ fuel n p rest le)
 moves_come h cs old (v ∷ vs) fuel n p rest ok le =
     let s0 = bit_small v.condition in
     let s1 = bit_small v.operation in
     let s2 = bit_small v.outcome in
     let s3 = bit_small v.minutes in
-    let tail = joined move_bytes vs ++ rest in
-    come_step (model h cs old []) (model h cs (old ++ v ∷ vs) []) (move_entry v) (move_bytes v) (joined move_bytes vs) rest fuel n p (omega arith) le
+    let tail = concatenated move_bytes vs ++ rest in
+    come_step (model h cs old []) (model h cs (old ++ v ∷ vs) []) (move_entry v) (move_bytes v) (concatenated move_bytes vs) rest fuel n p (omega arith) le
     (entry_gets (model h cs old []) 2 (bit_of v.condition + 2 * bit_of v.operation + 4 * bit_of v.outcome + 8 * bit_of v.minutes) p ((number_bytes v.condition ++ (number_bytes v.operation ++ (number_bytes v.outcome ++ minutes_bytes v.minutes))) ++ tail) (move_entry v) tail refl (lt-ltb (length old) 4096 ok.0) (omega arith)
     (λ at map_at q. then_gets _ _ v tail (move_entry v) tail (move_gets (model h cs old []) at map_at v q tail ok.1 ok.2 ok.3 ok.4) (λ q'. (q', refl))))
     (λ f k o l. subst (λ x. Comes (model h cs (old ++ v ∷ []) []) (model h cs x []) f k o tail rest) (append_assoc old (v ∷ []) vs) (moves_come h cs (old ++ v ∷ []) vs f k o rest ok.5 l))
 
-requests_come : (h : Header) (cs : List ℕ) (vs : List Move) (old ws : List RequestModel) (fuel n p : ℕ) (rest : List ℕ) → Requests h.marks h.stages old ws → length (joined request_bytes ws ++ rest) ≤ fuel → Comes (model h cs vs old) (model h cs vs (old ++ ws)) fuel n p (joined request_bytes ws ++ rest) rest
-unfolding joined add body
+requests_come : (h : Header) (cs : List ℕ) (vs : List Move) (old ws : List RequestModel) (fuel n p : ℕ) (rest : List ℕ) → Requests h.marks h.stages old ws → length (concatenated request_bytes ws ++ rest) ≤ fuel → Comes (model h cs vs old) (model h cs vs (old ++ ws)) fuel n p (concatenated request_bytes ws ++ rest) rest
+unfolding concatenated add body
 requests_come h cs vs old [] fuel n p rest ok le = rw (append-nil old) (comes_none _ fuel n p rest le)
 requests_come h cs vs old (w ∷ ws) fuel n p rest ok le =
     let s0 = bit_small w.from in
     let s1 = bit_small w.to in
     let s2 = text_small w.keep in
     let s3 = text_small w.reach in
-    let tail = joined request_bytes ws ++ rest in
-    come_step (model h cs vs old) (model h cs vs (old ++ w ∷ ws)) (request_entry w) (request_bytes w) (joined request_bytes ws) rest fuel n p (omega arith) le
+    let tail = concatenated request_bytes ws ++ rest in
+    come_step (model h cs vs old) (model h cs vs (old ++ w ∷ ws)) (request_entry w) (request_bytes w) (concatenated request_bytes ws) rest fuel n p (omega arith) le
     (entry_gets (model h cs vs old) 3 (bit_of w.from + 2 * bit_of w.to + 4 * text_bit w.keep + 8 * text_bit w.reach) p ((number_bytes w.from ++ (number_bytes w.to ++ (text_bytes w.keep ++ text_bytes w.reach))) ++ tail) (request_entry w) tail refl (lt-ltb (length old) 32 ok.0) (omega arith)
     (λ at map_at q. then_gets _ _ w tail (request_entry w) tail (request_gets (model h cs vs old) map_at w q tail ok.1 ok.2 ok.3 ok.4) (λ q'. (q', refl))))
     (λ f k o l. subst (λ x. Comes (model h cs vs (old ++ w ∷ [])) (model h cs vs x) f k o tail rest) (append_assoc old (w ∷ []) ws) (requests_come h cs vs (old ++ w ∷ []) ws f k o rest ok.5 l))
@@ -252,9 +252,9 @@ unfolding sheet_of
 reading_complete m ok =
     let h = m.header in
     let t = header_of h ++ records_of m in
-    let cb = joined condition_bytes m.conditions in
-    let mb = joined move_bytes m.moves in
-    let rb = joined request_bytes m.requests in
+    let cb = concatenated condition_bytes m.conditions in
+    let mb = concatenated move_bytes m.moves in
+    let rb = concatenated request_bytes m.requests in
     let g = heading_gets m (records_of m) ok in
     let c1 = conditions_come h [] m.conditions (length t) 0 g.0 (mb ++ rb) (conditions_one_by_one _ [] m.conditions ok.conditions_few ok.conditions_marked ok.conditions_rise) (heading_less t h g.0 (records_of m) g.1) in
     let c2 = moves_come h m.conditions [] m.moves c1.more c1.count c1.place rb (moves_one_by_one _ _ [] m.moves ok.moves_few ok.moves_exist ok.moves_rise) c1.enough in

@@ -2,12 +2,12 @@
 use Rattle.std.proofs.Common.{◌≡◌, ℕ, zero, suc, ◌+◌, ◌*◌, ◌/◌, ◌%◌, ◌^◌, ◌<◌, ◌≤◌, min, Bool, true, false, cond, eqb, ltb, leb, List, [], ◌∷◌, ◌++◌, length, take, drop, sym, refl, ap, subst, arith, length-append, length-take-le, pow_mono, ltb-true, leb-true}
 use mathlib.Core.List as List
 use native.Mathlib.Nat.{min-le_right}
-use Rattle.formula.specs.Grammar.{Verdict, whole, stuck, verdict, goes, step}
+use Rattle.formula.specs.Grammar.{TextVerdict, whole, stuck, verdict, goes, step, both}
 use Rattle.port.specs.declared.Header.{Header}
 use Rattle.port.specs.declared.Move.{Move}
 use Rattle.port.specs.Model.{Model, RequestModel}
 use Rattle.faults.specs.declared.layers.PortFault.TheVariants.{Start}
-use Rattle.reading.specs.Reading.{Step, got, fault, and_then, byte, bytes, number, field, minutes, text_length, whole_text, judged, text, both, rises, low_limit, high_limit, present, condition, move, request, follows, room, none, Head, head, body, entry, opening, count, start_stage, heading, Entry, condition_entry, move_entry, request_entry, add, empty, held, refused, finish, records, reading}
+use Rattle.reading.specs.Reading.{Step, got, fault, and_then, byte, bytes, number, field, minutes, text_length, whole_text, judged, text, rises, low_limit, high_limit, present, condition, move, request, follows, room, none, Head, head, body, entry, opening, count, start_stage, heading, Entry, condition_entry, move_entry, request_entry, add, empty, held, refused, finish, records, reading}
 use Rattle.formula.specs.Truth.{is_whole}
 use Rattle.port.specs.Limits.{In, no_move, Marked, Rise, key, MovesExist, MovesRise, TextOk}
 use Rattle.port.specs.Valid.{Valid}
@@ -26,7 +26,7 @@ unfolding field
 field_below b at limit p s =
     then_post (λ (v : ℕ) (r : List ℕ). Unit {0}) (Below limit) (number b p s) _ (any_post (number b p s)) (λ v q r _. if_post (Below limit) _ _ (got v q r) (λ h. ltb-true v limit h))
 
-judged_fine : (marks p : ℕ) (w : List ℕ) (v : Verdict) (q : ℕ) (r : List ℕ) → verdict marks w ≡ v → (0 < length w) × (length w ≤ 63) → Post (λ w (r : List ℕ). TextOk marks w) (judged p v (got w q r))
+judged_fine : (marks p : ℕ) (w : List ℕ) (v : TextVerdict) (q : ℕ) (r : List ℕ) → verdict marks w ≡ v → (0 < length w) × (length w ≤ 63) → Post (λ w (r : List ℕ). TextOk marks w) (judged p v (got w q r))
 unfolding judged
 judged_fine marks p w whole q r e h = (h.0, h.1, ap is_whole e)
 judged_fine marks p w (stuck k) q r e h = tt

@@ -7,7 +7,7 @@ use lib.ListN.{length-map}
 use lib.Seq.{get_or-append_seam}
 use Rattle.std.proofs.lemmas.List.{get_or_append_left, map-append}
 use borrow.Author.Tests.{eqb-false, clash}
-use Rattle.formula.specs.Grammar.{Verdict, whole, stuck}
+use Rattle.formula.specs.Grammar.{TextVerdict, whole, stuck}
 use Rattle.formula.specs.Truth.{is_whole}
 use Rattle.port.specs.declared.Move.{Move}
 use Rattle.port.specs.Limits.{In, no_move, at, Marked, Rise, key, MovesExist, MovesRise, TextOk}
@@ -59,7 +59,7 @@ module _ (marks c : ℕ) where
           (subst (λ n. c % 256 < n) (sym two.0) x, omega arith)
 
 -- a text that is read whole is a formula
-pub formula_whole : (v : Verdict) → is_whole v ≡ true → v ≡ whole
+pub formula_whole : (v : TextVerdict) → is_whole v ≡ true → v ≡ whole
 formula_whole whole h = refl
 formula_whole (stuck k) h = absurd (clash h)
 

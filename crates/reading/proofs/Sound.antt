@@ -2,14 +2,14 @@
 use Rattle.std.proofs.Common.{◌≡◌, ℕ, zero, suc, ◌+◌, ◌*◌, ◌/◌, ◌%◌, ◌<◌, ◌≤◌, Bool, true, false, cond, eqb, ltb, List, [], ◌∷◌, ◌++◌, length, get_or, take, drop, sym, refl, ap, ◌∙◌, subst, append_assoc, append-nil, arith, take-append-drop, length-take-le, w8, Fits, ltb-true, eqb-true, leb-true}
 use Rattle.reading.specs.Theorems.{Only}
 use borrow.Author.Tests.{clash}
-use Rattle.formula.specs.Grammar.{Verdict, whole, stuck, verdict}
+use Rattle.formula.specs.Grammar.{TextVerdict, whole, stuck, verdict, both}
 use Rattle.port.specs.declared.Header.{Header}
 use Rattle.port.specs.declared.Move.{Move}
 use Rattle.port.specs.Model.{Model, RequestModel}
 use Rattle.faults.specs.declared.layers.PortFault.{PortFault}
 use Rattle.faults.specs.declared.layers.PortFault.TheVariants.{Start}
-use Rattle.reading.specs.Reading.{Step, got, fault, and_then, provided, byte, bytes, number, field, minutes, text_length, whole_text, judged, text, absent, same, denied, both, condition, move, request, present, follows, room, map_limit, none, Head, admitted, head, body, entry, opening_bytes, opening, count, start_stage, heading, Entry, condition_entry, move_entry, request_entry, add, empty, held, refused, finish, records, reading}
-use Rattle.reading.specs.SheetOf.{Bytes, number_bytes, minutes_bytes, text_bytes, bit_of, text_bit, condition_bytes, move_bytes, request_bytes, joined, records_of, header_of, sheet_of}
+use Rattle.reading.specs.Reading.{Step, got, fault, and_then, provided, byte, bytes, number, field, minutes, text_length, whole_text, judged, text, absent, same, denied, condition, move, request, present, follows, room, map_limit, none, Head, admitted, head, body, entry, opening_bytes, opening, count, start_stage, heading, Entry, condition_entry, move_entry, request_entry, add, empty, held, refused, finish, records, reading}
+use Rattle.reading.specs.SheetOf.{Bytes, number_bytes, minutes_bytes, text_bytes, bit_of, text_bit, condition_bytes, move_bytes, request_bytes, concatenated, records_of, header_of, sheet_of}
 use Rattle.reading.proofs.Steps.{same_true}
 use Rattle.reading.proofs.Whole.{entry_less, heading_less}
 
@@ -109,7 +109,7 @@ whole_text_post p s =
     let size : length w ≡ n = f.1 in
     (cc, not_denied (same w absent) h))))
 
-judged_post : (Q : List ℕ → List ℕ → Type 0) (p : ℕ) (v : Verdict) (x : Step (List ℕ)) → Post Q x → Post Q (judged p v x)
+judged_post : (Q : List ℕ → List ℕ → Type 0) (p : ℕ) (v : TextVerdict) (x : Step (List ℕ)) → Post Q x → Post Q (judged p v x)
 unfolding judged
 judged_post Q p whole x h = h
 judged_post Q p (stuck k) x h = tt
@@ -288,21 +288,21 @@ entry_post m p s bs =
     post_map (BodyAt m h.kind h.map r) (EntryAt m s) (body m h q r) (λ x y g. (e.0 ∙ g.0, g.1)) (body_post m h q r fit.1.1 e.1 e.2))
 
 -- the bytes of one record more
-joined_more : {V : Type 0} (f : V → List ℕ) (xs : List V) (x : V) → joined f (xs ++ x ∷ []) ≡ joined f xs ++ f x
-unfolding joined
+joined_more : {V : Type 0} (f : V → List ℕ) (xs : List V) (x : V) → concatenated f (xs ++ x ∷ []) ≡ concatenated f xs ++ f x
+unfolding concatenated
 joined_more f [] x = append-nil (f x)
-joined_more f (y ∷ xs) x = ap (λ l. f y ++ l) (joined_more f xs x) ∙ sym (append_assoc (f y) (joined f xs) (f x))
+joined_more f (y ∷ xs) x = ap (λ l. f y ++ l) (joined_more f xs x) ∙ sym (append_assoc (f y) (concatenated f xs) (f x))
 
-joined_none : {V : Type 0} (f : V → List ℕ) (xs : List V) → xs ≡ [] → joined f xs ≡ []
-unfolding joined
-joined_none f xs e = ap (joined f) e
+joined_none : {V : Type 0} (f : V → List ℕ) (xs : List V) → xs ≡ [] → concatenated f xs ≡ []
+unfolding concatenated
+joined_none f xs e = ap (concatenated f) e
 
 add_bytes : (m : Model) (e : Entry) → Follow m e → records_of (add m e) ≡ records_of m ++ entry_bytes e
 unfolding add
 add_bytes m (condition_entry c) h =
-    rw (joined_more condition_bytes m.conditions c, joined_none move_bytes m.moves h.0, joined_none request_bytes m.requests h.1) (append-nil _ ∙ sym (ap (λ l. l ++ condition_bytes c) (append-nil (joined condition_bytes m.conditions))))
+    rw (joined_more condition_bytes m.conditions c, joined_none move_bytes m.moves h.0, joined_none request_bytes m.requests h.1) (append-nil _ ∙ sym (ap (λ l. l ++ condition_bytes c) (append-nil (concatenated condition_bytes m.conditions))))
 add_bytes m (move_entry v) h =
-    rw (joined_more move_bytes m.moves v, joined_none request_bytes m.requests h) (ap (λ l. joined condition_bytes m.conditions ++ l) (append-nil (joined move_bytes m.moves ++ move_bytes v)) ∙ sym (append_assoc (joined condition_bytes m.conditions) (joined move_bytes m.moves) (move_bytes v)) ∙ ap (λ l. (joined condition_bytes m.conditions ++ l) ++ move_bytes v) (sym (append-nil (joined move_bytes m.moves))))
+    rw (joined_more move_bytes m.moves v, joined_none request_bytes m.requests h) (ap (λ l. concatenated condition_bytes m.conditions ++ l) (append-nil (concatenated move_bytes m.moves ++ move_bytes v)) ∙ sym (append_assoc (concatenated condition_bytes m.conditions) (concatenated move_bytes m.moves) (move_bytes v)) ∙ ap (λ l. (concatenated condition_bytes m.conditions ++ l) ++ move_bytes v) (sym (append-nil (concatenated move_bytes m.moves))))
 add_bytes m (request_entry w) h =
     rw (joined_more request_bytes m.requests w) (simp append_assoc)
 
@@ -380,7 +380,7 @@ heading_post p s =
     e0 ∙ ap (λ l. opening_bytes ++ l) (e1 ∙ ap (λ l. a ∷ l) (e2 ∙ ap (λ l. b ∷ l) (e3 ∙ ap (λ l. c ∷ l) (e4 ∙ ap (λ l. d ∷ l) e5))))))))))
 
 reading_by : (t : List ℕ) (m : Model) → Bytes t → (x : Step Header) → heading 0 t ≡ x → elim x [ got h q r ↦ records (length t) 0 (empty h) q r | fault z ↦ refused z 0 ] ≡ held m → t ≡ sheet_of m
-unfolding sheet_of joined
+unfolding sheet_of concatenated
 reading_by t m bs (got h q r) is e =
     let at : t ≡ header_of h ++ r = subst (Post (HeadAt t)) is (heading_post 0 t) in
     let g = records_sound (length t) 0 (empty h) q r m (rest_bytes (header_of h) r (subst Bytes at bs)) (heading_less t h q r is) e in

@@ -5,9 +5,9 @@ use Rattle.faults.specs.declared.layers.ByteFault.TheVariants.{Ends}
 use Rattle.faults.specs.declared.layers.RecordFault.TheVariants.{Byte, Formula, Map}
 use Rattle.faults.specs.declared.layers.PortFault.{PortFault}
 use Rattle.faults.specs.declared.layers.PortFault.TheVariants.{Record}
-use Rattle.reading.specs.Reading.{Step, got, fault, and_then, provided, byte, bytes, judged, same, both, map_limit, admitted, field, minutes, Head, head, body, condition, move, request, condition_entry, move_entry, request_entry}
+use Rattle.reading.specs.Reading.{Step, got, fault, and_then, provided, byte, bytes, judged, same, map_limit, admitted, field, minutes, Head, head, body, condition, move, request, condition_entry, move_entry, request_entry}
 use Rattle.port.specs.Model.{Model}
-use Rattle.formula.specs.Grammar.{Verdict, whole, stuck}
+use Rattle.formula.specs.Grammar.{TextVerdict, whole, stuck, both}
 use Rattle.formula.specs.declared.FormulaFault.{FormulaFault}
 
 module _ {V W : Type 0} where
@@ -67,19 +67,19 @@ pub bytes_place : (n p q : ℕ) (s w r : List ℕ) → bytes n p s ≡ got w q r
 unfolding bytes
 bytes_place n p q s w r e = bytes_place_by (leb n (length s)) n p q s w r refl e
 
-pub judged_whole : (p : ℕ) (v : Verdict) (x : Step (List ℕ)) → v ≡ whole → judged p v x ≡ x
+pub judged_whole : (p : ℕ) (v : TextVerdict) (x : Step (List ℕ)) → v ≡ whole → judged p v x ≡ x
 unfolding judged
 judged_whole p v x h = ap (λ u. judged p u x) h
 
-pub judged_stuck : (p : ℕ) (v : Verdict) (k : ℕ) (f : FormulaFault) (x : Step (List ℕ)) → v ≡ stuck k → f.place ≡ p + k → judged p v x ≡ fault (Record (Formula f))
+pub judged_stuck : (p : ℕ) (v : TextVerdict) (k : ℕ) (f : FormulaFault) (x : Step (List ℕ)) → v ≡ stuck k → f.place ≡ p + k → judged p v x ≡ fault (Record (Formula f))
 unfolding judged
 judged_stuck p v k f x h e = ap (λ u. judged p u x) h ∙ ap (λ q. fault (Record (Formula (record { place = q })))) (sym e)
 
 -- the same from another name of the place
-pub moved_whole : (p q : ℕ) (v : Verdict) → q ≡ p → ((x : Step (List ℕ)) → judged q v x ≡ x) → (x : Step (List ℕ)) → judged p v x ≡ x
+pub moved_whole : (p q : ℕ) (v : TextVerdict) → q ≡ p → ((x : Step (List ℕ)) → judged q v x ≡ x) → (x : Step (List ℕ)) → judged p v x ≡ x
 moved_whole p q v e h x = sym (ap (λ k. judged k v x) e) ∙ h x
 
-pub moved_stuck : (p q : ℕ) (v : Verdict) (f : PortFault) → q ≡ p → ((x : Step (List ℕ)) → judged q v x ≡ fault f) → (x : Step (List ℕ)) → judged p v x ≡ fault f
+pub moved_stuck : (p q : ℕ) (v : TextVerdict) (f : PortFault) → q ≡ p → ((x : Step (List ℕ)) → judged q v x ≡ fault f) → (x : Step (List ℕ)) → judged p v x ≡ fault f
 moved_stuck p q v f e h x = sym (ap (λ k. judged k v x) e) ∙ h x
 
 -- a number from 1 to a limit

@@ -1,6 +1,6 @@
 -- Every reader leaves no more bytes than it was given, and the records one after another.
 use Rattle.std.proofs.Common.{◌≡◌, ℕ, zero, suc, ◌+◌, ◌-◌, ◌*◌, ◌<◌, ◌≤◌, Bool, true, false, cond, eqb, ltb, List, [], ◌∷◌, length, take, drop, sym, refl, ap, ◌∙◌, subst, arith, length-drop}
-use Rattle.formula.specs.Grammar.{Verdict, whole, stuck, verdict}
+use Rattle.formula.specs.Grammar.{TextVerdict, whole, stuck, verdict}
 use Rattle.port.specs.declared.Header.{Header}
 use Rattle.port.specs.Model.{Model}
 use Rattle.faults.specs.declared.layers.PortFault.{PortFault}
@@ -57,7 +57,7 @@ whole_text_below n p s h =
     then_below n (text_length p s) _ (then_below n (byte p s) _ (byte_below n p s h) (λ k q r l. if_below n _ _ (got k q r) l)) (λ k q r l.
     then_below n (bytes k q r) _ (bytes_below n k q r l) (λ w q r l. if_below n _ _ (got w q r) l))
 
-judged_below : (n p : ℕ) (v : Verdict) (x : Step (List ℕ)) → Below n x → Below n (judged p v x)
+judged_below : (n p : ℕ) (v : TextVerdict) (x : Step (List ℕ)) → Below n x → Below n (judged p v x)
 unfolding judged
 judged_below n p whole x h = h
 judged_below n p (stuck k) x h = tt

@@ -1,9 +1,9 @@
 -- What the reading says of a text is what the grammar says of it.
 use Rattle.std.proofs.Common.{◌≡◌, ℕ, zero, suc, ◌+◌, ◌≤◌, Bool, true, false, List, [], ◌∷◌, length, sym, refl, ◌∙◌, arith}
-use Rattle.formula.specs.Grammar.{Verdict, whole, stuck, verdict, goes, step, refuse, to}
+use Rattle.formula.specs.Grammar.{TextVerdict, whole, stuck, verdict, goes, step, refuse, to}
 use Rattle.formula.proofs.Language.{complete, no_formula}
 use Rattle.formula.proofs.Steps.{goes_end, goes_open, goes_refuse, goes_to}
-use Rattle.reading.specs.Theorems.{Judged, Grammatical}
+use Rattle.reading.specs.Theorems.{GrammarAgrees, Grammatical}
 
 same_place : (p q : ℕ) → stuck p ≡ stuck q → p ≡ q
 same_place p q e = cc
@@ -20,7 +20,7 @@ stuck_within n e d (b ∷ xs) p q h =
       | to f k ↦ λ r. omega (arith, stuck_within n f k xs (p + 1) q (sym (goes_to n e d b xs p r) ∙ h))
     ] refl
 
-judged_by : (n : ℕ) (t : List ℕ) (v : Verdict) → goes n true 0 t 0 ≡ v → Judged n t v
+judged_by : (n : ℕ) (t : List ℕ) (v : TextVerdict) → goes n true 0 t 0 ≡ v → GrammarAgrees n t v
 judged_by n t whole h = λ m. complete n m t h
 judged_by n t (stuck k) h = no_formula n t k (omega (arith, stuck_within n true 0 t 0 k h)) h
 

@@ -2,7 +2,7 @@
 use Rattle.std.specs.Prelude.{ℕ, zero, suc, ◌+◌, ◌-◌, ◌*◌, ◌/◌, ◌%◌, ◌^◌, min, Bool, true, false, cond, List, [], ◌∷◌, ◌++◌, length, take, drop, ◌==◌, nat_le, nat_lt, slice_index, codes}
 use mathlib.Core.List as List
 use Rattle.formula.specs.Bytes.{one_byte}
-use Rattle.formula.specs.Grammar.{Verdict, verdict, whole, stuck}
+use Rattle.formula.specs.Grammar.{TextVerdict, verdict, whole, stuck, both}
 use Rattle.port.specs.declared.Header.{Header}
 use Rattle.port.specs.declared.Move.{Move}
 use Rattle.port.specs.Numbers.{most_marks, most_operations, most_stages, most_conditions, most_moves, most_requests, longest_text, byte_end, byte_bits}
@@ -62,9 +62,6 @@ abbrev pub denied : Bool → Bool
 denied true = false
 denied false = true
 
-abbrev pub both : Bool → Bool → Bool
-both a b = cond a b false
-
 -- the text of an absent one
 abbrev pub absent : List ℕ
 absent = one_byte ∷ []
@@ -81,7 +78,7 @@ whole_text p s =
     provided (denied (same w absent)) (Record (Absent p)) (got w q r)))
 
 -- what the grammar says of a text that stands from place p on
-unfoldable pub judged : ℕ → Verdict → Step (List ℕ) → Step (List ℕ)
+unfoldable pub judged : ℕ → TextVerdict → Step (List ℕ) → Step (List ℕ)
 judged p whole x = x
 judged p (stuck k) x = fault (Record (Formula (record { place = p + k })))
 

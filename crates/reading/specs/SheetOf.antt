@@ -46,12 +46,12 @@ request_bytes w =
     request_kind ∷ (bit_of w.from + 2 * bit_of w.to + 4 * text_bit w.keep + 8 * text_bit w.reach)
     ∷ (number_bytes w.from ++ (number_bytes w.to ++ (text_bytes w.keep ++ text_bytes w.reach)))
 
-unfoldable pub joined : {V : Type 0} → (V → List ℕ) → List V → List ℕ
-joined f [] = []
-joined f (x ∷ xs) = f x ++ joined f xs
+unfoldable pub concatenated : {V : Type 0} → (V → List ℕ) → List V → List ℕ
+concatenated f [] = []
+concatenated f (x ∷ xs) = f x ++ concatenated f xs
 
 abbrev pub records_of : Model → List ℕ
-records_of m = joined condition_bytes m.conditions ++ (joined move_bytes m.moves ++ joined request_bytes m.requests)
+records_of m = concatenated condition_bytes m.conditions ++ (concatenated move_bytes m.moves ++ concatenated request_bytes m.requests)
 
 abbrev pub header_of : Header → List ℕ
 header_of h = opening_bytes ++ (h.marks ∷ h.operations ∷ h.stages ∷ h.stage ∷ h.condition ∷ [])

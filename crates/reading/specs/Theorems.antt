@@ -1,6 +1,6 @@
 -- What is proved of the reading of sheets.
 use Rattle.std.specs.Prelude.{◌≡◌, ℕ, Bool, List}
-use Rattle.formula.specs.Grammar.{Verdict, whole, stuck, verdict, Whole, NoFormula}
+use Rattle.formula.specs.Grammar.{TextVerdict, whole, stuck, verdict, Whole, NoFormula}
 use Rattle.port.specs.Model.{Model}
 use Rattle.port.specs.Valid.{Valid}
 use Rattle.reading.specs.Reading.{held, reading}
@@ -20,9 +20,9 @@ Written = (m : Model) → Valid m → reading (sheet_of m) ≡ held m
 
 -- What the reading says of a text over n marks, the grammar says too: it is a formula, or none, and then no formula
 -- goes on at that place.
-abbrev pub Judged : ℕ → List ℕ → Verdict → Type 0
-Judged n t whole = (m : ℕ) → (v : Bool) × Whole n m t v
-Judged n t (stuck k) = NoFormula n t k
+abbrev pub GrammarAgrees : ℕ → List ℕ → TextVerdict → Type 0
+GrammarAgrees n t whole = (m : ℕ) → (v : Bool) × Whole n m t v
+GrammarAgrees n t (stuck k) = NoFormula n t k
 
 abbrev pub Grammatical : Type 0
-Grammatical = (n : ℕ) (t : List ℕ) → Judged n t (verdict n t)
+Grammatical = (n : ℕ) (t : List ℕ) → GrammarAgrees n t (verdict n t)

@@ -20,18 +20,18 @@ use Rattle.plans.proofs.Decide.{alike, reached_attains}
 use Rattle.plans.proofs.Formed.{tasks_length}
 use Rattle.plans.proofs.Index.{in_at}
 use Rattle.costs.specs.Costs.{Model as Costing}
-use Rattle.search.specs.Answers.{Answer, Answers}
+use Rattle.search.specs.Answers.{Answers, RightChoice}
 use Rattle.search.specs.declared.Choice.{Choice}
 use Rattle.search.specs.declared.Choice.TheVariants.{None, There, Work}
-use Rattle.rounds.specs.Rows.{both}
+use Rattle.rounds.specs.Rows.{both_rows}
 use Rattle.rounds.specs.Rounds.{serving}
-use Rattle.rounds.specs.Tasks.{Fresh, IsTask, SameTexts, TasksOf, Tells, Told, planned}
+use Rattle.rounds.specs.Tasks.{DomainTasks, Fresh, IsDomainTask, IsTask, SameTexts, TasksOf, planned}
 use Rattle.rounds.specs.declared.tasks.Task.{Task}
 use Rattle.rounds.proofs.Lists.{all_zip_at, an_element, both_has, both_long}
 
 -- a choice has a plan exactly where some plan attains the goal
 pub planned_iff : {A : Type 0} (k : Costing) (e : A → List ℕ) (moves : List Move) (keep goal : ℕ → Bool) (c : ℕ) (x : Choice A) →
-    Answer k e moves keep goal c x → (planned x ≡ true) ↔ Attainable moves keep goal c
+    RightChoice k e moves keep goal c x → (planned x ≡ true) ↔ Attainable moves keep goal c
 planned_iff k e moves keep goal c None a = (λ t. absurd (false≢true t), λ p. absurd (a p.0 p.1))
 planned_iff k e moves keep goal c There a = (λ t. (stop, stop_attains moves keep goal c a), λ p. refl)
 planned_iff k e moves keep goal c (Work o x) a = (λ t. (work o a.1.next, a.1.prices.0), λ p. refl)
@@ -44,7 +44,7 @@ task_staged D wf i l = wf.staged (task_at D i) (in_at D.tasks i no_task l)
 
 -- the rows that a search leaves
 pub searched : {A : Type 0} (k : Costing) (e : A → List ℕ) (D : Domain) (alive : List Bool) (choices : List (Choice A)) (t : Task) →
-    length (vec_items t.reach) ≡ D.conditions → length alive ≡ D.conditions → vec_items t.goal ≡ both (vec_items t.reach) alive →
+    length (vec_items t.reach) ≡ D.conditions → length alive ≡ D.conditions → vec_items t.goal ≡ both_rows (vec_items t.reach) alive →
     Answers D.conditions k e D.moves (vec_items t.keep) (vec_items t.goal) choices → vec_items t.served ≡ map planned choices → Fresh D alive t
 searched k e D alive choices t long wide goal a served = record {
   goal_long = ap length goal ∙ both_long (vec_items t.reach) alive D.conditions long wide;
@@ -58,7 +58,7 @@ searched k e D alive choices t long wide goal a served = record {
 }
 
 -- rows that are up to date with a set's pairs say from where the task can be served with these to end in
-pub fresh_serving : (D : Domain) → WellFormed D → (R : ℕ → ℕ → Bool) (i : ℕ) (alive : List Bool) (t : Task) → Tells D.conditions (task_at D i) t →
+pub fresh_serving : (D : Domain) → WellFormed D → (R : ℕ → ℕ → Bool) (i : ℕ) (alive : List Bool) (t : Task) → IsDomainTask D.conditions (task_at D i) t →
     Fresh D alive t → ((c : ℕ) → has alive c ≡ R (task_at D i).to c) →
     (c : ℕ) → c < D.conditions → has (vec_items t.served) c ≡ serving D R i c
 fresh_serving D wf R i alive t told f same c l =
@@ -74,7 +74,7 @@ fresh_serving D wf R i alive t told f same c l =
     goals y h = f.goal y h ∙ ap₂ ◌&&◌ (told.reach y h) (same y)
 
 -- what was made with the same texts tells the same
-pub tells_same : (n : ℕ) (q : Asked) (t u : Task) → SameTexts t u → Tells n q t → Tells n q u
+pub tells_same : (n : ℕ) (q : Asked) (t u : Task) → SameTexts t u → IsDomainTask n q t → IsDomainTask n q u
 tells_same n q t u s h = record {
   from = s.from ∙ h.from;
   to = s.to ∙ h.to;
@@ -86,7 +86,7 @@ tells_same n q t u s h = record {
 
 -- ── the tasks of a port ──
 
-tells : (m : Model) (q : RequestModel) (t : Task) → IsTask m.header.marks m.conditions q t → Tells (length m.conditions) (task_of m q) t
+tells : (m : Model) (q : RequestModel) (t : Task) → IsTask m.header.marks m.conditions q t → IsDomainTask (length m.conditions) (task_of m q) t
 tells m q t h = record {
   from = h.from;
   to = h.to;
@@ -96,13 +96,13 @@ tells m q t h = record {
   reach = λ c l. ap (λ fs. has fs c) h.reach ∙ get_or-map (λ x. truth m.header.marks x q.reach) m.conditions c 0 false l;
 }
 
-pub tasks_told : (p : Port) (tasks : List Task) → TasksOf p tasks → Told (domain_of (model_of p)) tasks
+pub tasks_told : (p : Port) (tasks : List Task) → TasksOf p tasks → DomainTasks (domain_of (model_of p)) tasks
 tasks_told p tasks h = record { many = AllZip-long (λ (q : Request) (t : Task). IsTask p.header.marks (vec_items p.conditions) (request_model q) t) (vec_items p.requests) tasks h ∙ sym many; each = each }
   where
     many : length (domain_of (model_of p)).tasks ≡ length (vec_items p.requests)
     many = tasks_length (model_of p) ∙ length-map (vec_items p.requests) request_model
 
-    each : (i : ℕ) (d : Task) → i < length (domain_of (model_of p)).tasks → Tells (length (vec_items p.conditions)) (task_at (domain_of (model_of p)) i) (get_or tasks i d)
+    each : (i : ℕ) (d : Task) → i < length (domain_of (model_of p)).tasks → IsDomainTask (length (vec_items p.conditions)) (task_at (domain_of (model_of p)) i) (get_or tasks i d)
     each i d l =
         let lr : i < length (vec_items p.requests) = omega (arith, many) in
         let r : Request = an_element (vec_items p.requests) i lr in
@@ -112,6 +112,6 @@ tasks_told p tasks h = record { many = AllZip-long (λ (q : Request) (t : Task).
         let is : task_at (domain_of (model_of p)) i ≡ task_of (model_of p) (request_model q) =
         get_or-map (task_of (model_of p)) (map request_model (vec_items p.requests)) i (request_model r) no_task (omega (arith, length-map (vec_items p.requests) request_model))
         ∙ ap (task_of (model_of p)) here in
-        subst (λ (a : Asked). Tells (length (vec_items p.conditions)) a (get_or tasks i d)) (sym is)
+        subst (λ (a : Asked). IsDomainTask (length (vec_items p.conditions)) a (get_or tasks i d)) (sym is)
         (tells (model_of p) (request_model q) (get_or tasks i d)
         (all_zip_at (λ (b : Request) (t : Task). IsTask p.header.marks (vec_items p.conditions) (request_model b) t) (vec_items p.requests) tasks h i r d lr))

@@ -5,15 +5,15 @@ use native.Mathlib.Decide.{dec_lt}
 use Rattle.std.proofs.lemmas.List.{length-replicate, get_or-replicate}
 use Rattle.plans.specs.Simulation.{Domain, WellFormed, InRange, Rank}
 use Rattle.plans.specs.Iterate.{Iterates, Stable}
-use Rattle.plans.specs.Reach.{left}
+use Rattle.plans.specs.Reach.{left_after}
 use Rattle.plans.specs.Flags.{all_served, bit, has, raised, task_at}
 use Rattle.plans.proofs.Decide.{left_iterates, serves_same}
 use Rattle.plans.proofs.Flags.{bit_true, raised_most}
 use Rattle.plans.proofs.Rounds.{served_rows}
 use Rattle.plans.proofs.Shrink.{dropped_rank, shrinks, stable_kept}
-use Rattle.rounds.specs.Rounds.{FreshFrom, Going, Judged, Ready, Turned, count_left, serving}
+use Rattle.rounds.specs.Rounds.{FreshFrom, Going, Judged, RoundReady, Turned, count_left, serving}
 use Rattle.rounds.specs.Stages.{SettledAll, SettledBy, StagesNew, left_in, next_in, rank_in}
-use Rattle.rounds.specs.Tasks.{Fresh, Told}
+use Rattle.rounds.specs.Tasks.{DomainTasks, Fresh}
 use Rattle.rounds.specs.declared.stages.Stage.{Stage}
 use Rattle.rounds.specs.declared.tasks.Task.{Task}
 use Rattle.rounds.proofs.Lists.{an_element}
@@ -71,37 +71,37 @@ and_sub false true h = h refl
 and_sub false false h = refl
 
 -- a synchronous round: of the pairs left after k rounds, those that each task of their stage serves are those left after k + 1
-pub round_left : (D : Domain) → WellFormed D → (k : ℕ) (R S : ℕ → ℕ → Bool) → ((s c : ℕ) → InRange D s c → R s c ≡ left D k s c) →
+pub round_left : (D : Domain) → WellFormed D → (k : ℕ) (R S : ℕ → ℕ → Bool) → ((s c : ℕ) → InRange D s c → R s c ≡ left_after D k s c) →
     ((s c : ℕ) → InRange D s c → S s c ≡ (R s c && all_served D (serving D R) (length D.tasks) s c)) →
-    (s c : ℕ) → InRange D s c → S s c ≡ left D (suc k) s c
+    (s c : ℕ) → InRange D s c → S s c ≡ left_after D (suc k) s c
 round_left D wf k R S before round s c r =
     round s c r
     ∙ ap₂ ◌&&◌ (before s c r)
-    (served_rows D R (serving D R) (λ i x l h. refl) s c r.1 ∙ serves_same D wf R (left D k) before s c r.1)
-    ∙ and_sub (left D k s c) (left D (suc k) s c) (shrinks D wf (left D) (left_iterates D wf) k s c r)
+    (served_rows D R (serving D R) (λ i x l h. refl) s c r.1 ∙ serves_same D wf R (left_after D k) before s c r.1)
+    ∙ and_sub (left_after D k s c) (left_after D (suc k) s c) (shrinks D wf (left_after D) (left_iterates D wf) k s c r)
 
 -- what is out after the round, with the round's number noted where it was not before
 pub judged_turn : (D : Domain) → WellFormed D → (R S : ℕ → ℕ → Bool) (old new : ℕ → ℕ → ℕ) (k : ℕ) (was changed : Bool) → Judged D R old k was →
-    ((s c : ℕ) → InRange D s c → S s c ≡ left D (suc k) s c) → ((s c : ℕ) → InRange D s c → S s c ≡ true → R s c ≡ true) →
+    ((s c : ℕ) → InRange D s c → S s c ≡ left_after D (suc k) s c) → ((s c : ℕ) → InRange D s c → S s c ≡ true → R s c ≡ true) →
     ((s c : ℕ) → InRange D s c → new s c ≡ cond (R s c && not (S s c)) (suc k) (old s c)) →
     (changed ≡ false → (s c : ℕ) → InRange D s c → S s c ≡ R s c) → Judged D S new (suc k) changed
 judged_turn D wf R S old new k was changed j next down noted same = record {
   alike = next;
   ranked = λ s c r f. out s c r f (R s c) refl;
   zeros = λ s c r t. noted s c r ∙ ap₂ (λ (a b : Bool). cond (a && not b) (suc k) (old s c)) (down s c r t) t ∙ j.zeros s c r (down s c r t);
-  lasts = λ e s c r t. ∣ (stable_kept D wf (left D) it k (stable e) s c r).0 (sym (j.alike s c r) ∙ down s c r t) ∣₁;
+  lasts = λ e s c r t. ∣ (stable_kept D wf (left_after D) it k (stable e) s c r).0 (sym (j.alike s c r) ∙ down s c r t) ∣₁;
 }
   where
-    it : Iterates D (left D)
+    it : Iterates D (left_after D)
     it = left_iterates D wf
 
-    stable : changed ≡ false → Stable D (left D) k
+    stable : changed ≡ false → Stable D (left_after D) k
     stable e s c r = sym (next s c r) ∙ same e s c r ∙ j.alike s c r
 
     out : (s c : ℕ) → InRange D s c → S s c ≡ false → (b : Bool) → R s c ≡ b → ∥ Rank D s c (new s c) ∥₁
     out s c r f true b =
         subst (λ (n : ℕ). ∥ Rank D s c n ∥₁) (sym (noted s c r ∙ ap₂ (λ (a x : Bool). cond (a && not x) (suc k) (old s c)) b f))
-        ∣ dropped_rank D wf (left D) it k s c r (sym (j.alike s c r) ∙ b) (sym (next s c r) ∙ f) ∣₁
+        ∣ dropped_rank D wf (left_after D) it k s c r (sym (j.alike s c r) ∙ b) (sym (next s c r) ∙ f) ∣₁
     out s c r f false b =
         subst (λ (n : ℕ). ∥ Rank D s c n ∥₁) (sym (noted s c r ∙ ap (λ (a : Bool). cond (a && not (S s c)) (suc k) (old s c)) b)) (j.ranked s c r b)
 
@@ -167,7 +167,7 @@ module _ (D : Domain) (wf : WellFormed D) (tasks tasks' : List Task) (before tur
       subst (λ (fs : List Bool). Fresh D fs (get_or tasks' j d)) (sym (quiet (task_at D j).to e to (lost (omega arith))))
       (t.fresh j d e l (λ le. absurd (omega (arith, l, le))))
 
-  ready : Ready D tasks' after
+  ready : RoundReady D tasks' after
   ready = record {
     told = t.told;
     high = high;
@@ -243,7 +243,7 @@ module _ (D : Domain) (wf : WellFormed D) (tasks tasks' : List Task) (before tur
 
 -- ── before the first round ──
 
-pub going_start : (D : Domain) → WellFormed D → (tasks : List Task) (stages : List Stage) → Told D tasks → StagesNew D.stages D.conditions stages → Going D tasks stages 0 true
+pub going_start : (D : Domain) → WellFormed D → (tasks : List Task) (stages : List Stage) → DomainTasks D tasks → StagesNew D.stages D.conditions stages → Going D tasks stages 0 true
 going_start D wf tasks stages told new = record {
   ready = record {
     told = told;

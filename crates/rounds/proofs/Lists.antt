@@ -7,7 +7,7 @@ use Rattle.std.proofs.lemmas.Slice.Zip.{all_zipped_more}
 use Rattle.port.specs.Limits.{In}
 use Rattle.plans.specs.Flags.{has}
 use Rattle.plans.proofs.Index.{in_at}
-use Rattle.rounds.specs.Rows.{both}
+use Rattle.rounds.specs.Rows.{both_rows}
 
 -- some element of a list that has one
 pub an_element : {A : Type 0} (xs : List A) (i : ℕ) → i < length xs → A
@@ -48,7 +48,7 @@ all_zip_push {A} {B} R items xs ys more i x y e l is h r m =
         ∙ ap (λ (a : A). take i xs ++ a ∷ []) (sym (subst (λ (zs : List A). x ≡ get_or zs i x) e is))
 
 -- the flag that both rows have
-pub both_has : (a b : List Bool) (c : ℕ) → has (both a b) c ≡ (has a c && has b c)
+pub both_has : (a b : List Bool) (c : ℕ) → has (both_rows a b) c ≡ (has a c && has b c)
 both_has [] b c = refl
 both_has (x ∷ a) [] c = off (has (x ∷ a) c)
   where
@@ -58,7 +58,7 @@ both_has (x ∷ a) [] c = off (has (x ∷ a) c)
 both_has (x ∷ a) (y ∷ b) zero = refl
 both_has (x ∷ a) (y ∷ b) (suc c) = both_has a b c
 
-pub both_long : (a b : List Bool) (n : ℕ) → length a ≡ n → length b ≡ n → length (both a b) ≡ n
+pub both_long : (a b : List Bool) (n : ℕ) → length a ≡ n → length b ≡ n → length (both_rows a b) ≡ n
 both_long [] b n e f = e
 both_long (x ∷ a) [] n e f = absurd (omega (arith, e, f))
 both_long (x ∷ a) (y ∷ b) zero e f = absurd (omega (arith, e))

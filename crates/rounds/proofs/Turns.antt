@@ -7,9 +7,9 @@ use Rattle.plans.proofs.Formed.{port_formed}
 use Rattle.index.specs.Indexed.{port_of}
 use Rattle.index.specs.declared.MoveIndex.{MoveIndex}
 use Rattle.plans.specs.Flags.{all_served, has, task_at}
-use Rattle.rounds.specs.Rounds.{domain_in, FreshFrom, Ready, SameLeft, Turned, Wide, serving}
+use Rattle.rounds.specs.Rounds.{domain_in, FreshFrom, RoundReady, SameLeft, Turned, Wide, serving}
 use Rattle.rounds.specs.Stages.{NarrowedBy, left_in, next_in, rank_in}
-use Rattle.rounds.specs.Tasks.{Fresh, SameTexts, Tells}
+use Rattle.rounds.specs.Tasks.{Fresh, IsDomainTask, SameTexts}
 use Rattle.rounds.specs.declared.stages.Stage.{Stage}
 use Rattle.rounds.specs.declared.tasks.Task.{Task}
 use Rattle.rounds.proofs.Lists.{an_element, both_has, both_long, each_set}
@@ -56,7 +56,7 @@ narrowed_more D V P N M i old here other s c r =
         ∙ ap (λ (b : Bool). P s c && (all_served D V i s c && (not b || V i c))) (sym (ne_eqb (task_at D i).from s (λ e. ne (sym e))))
 
 -- before the first turn
-pub turned_start : (D : Domain) (tasks : List Task) (stages : List Stage) → Ready D tasks stages → Turned D stages tasks stages 0
+pub turned_start : (D : Domain) (tasks : List Task) (stages : List Stage) → RoundReady D tasks stages → Turned D stages tasks stages 0
 turned_start D tasks stages r = record {
   told = r.told;
   high = r.high;
@@ -69,7 +69,7 @@ turned_start D tasks stages r = record {
       next_at stages s c d l ∙ ap (λ fs. has fs c) (r.level s d h.0) ∙ sym (left_at stages s c d l) ∙ sym (and_true (left_in stages s c));
 }
 
-module _ (index : MoveIndex) {before stages : List Stage} {first tasks : List Task} {i : ℕ} (ready : Ready (domain_in index) first before) (h : Turned (domain_in index) before tasks stages i) (li : i < length tasks) (a : Task) where
+module _ (index : MoveIndex) {before stages : List Stage} {first tasks : List Task} {i : ℕ} (ready : RoundReady (domain_in index) first before) (h : Turned (domain_in index) before tasks stages i) (li : i < length tasks) (a : Task) where
   abbrev D : Domain
   D = domain_in index
 
@@ -86,7 +86,7 @@ module _ (index : MoveIndex) {before stages : List Stage} {first tasks : List Ta
   abbrev t : Task
   t = get_or tasks i a
 
-  turn_tells : Tells D.conditions (task_at D i) t
+  turn_tells : IsDomainTask D.conditions (task_at D i) t
   turn_tells = h.told.each i a l
 
   turn_to : t.to < D.stages
@@ -123,7 +123,7 @@ module _ (index : MoveIndex) {before stages : List Stage} {first tasks : List Ta
       abbrev s : Stage
       s = get_or stages u.from x
 
-      told : Tells D.conditions (task_at D i) u
+      told : IsDomainTask D.conditions (task_at D i) u
       told = tells_same D.conditions (task_at D i) t u texts turn_tells
 
       low : u.from < D.stages
@@ -151,7 +151,7 @@ module _ (index : MoveIndex) {before stages : List Stage} {first tasks : List Ta
       turned_more = record {
         told = record {
           many = length-set tasks i u ∙ h.told.many;
-          each = λ j d lj. each_set (λ (k : ℕ) (y : Task). k < length D.tasks → Tells D.conditions (task_at D k) y) tasks i u li (λ lk. told)
+          each = λ j d lj. each_set (λ (k : ℕ) (y : Task). k < length D.tasks → IsDomainTask D.conditions (task_at D k) y) tasks i u li (λ lk. told)
               (λ k y ne lk. h.told.each k y lk) j d lj;
         };
         high = length-set stages u.from s' ∙ h.high;

@@ -8,8 +8,8 @@ abbrev pub Agree : ℕ → (ℕ → Bool) → (ℕ → Bool) → Type 0
 Agree n f g = (c : ℕ) → c < n → f c ≡ g c
 
 -- The flags that both rows have.
-abbrev pub both : List Bool → List Bool → List Bool
-both a b = map (λ p. p.0 && p.1) (zip a b)
+abbrev pub both_rows : List Bool → List Bool → List Bool
+both_rows a b = map (λ p. p.0 && p.1) (zip a b)
 
 -- Where a text holds, condition by condition, in a port of that many marks.
 abbrev pub truths : ℕ → List ℕ → List ℕ → List Bool

@@ -1,7 +1,7 @@
 -- What a stage of the rounds holds.
 use Rattle.std.specs.Prelude.{◌≡◌, ℕ, ◌<◌, Bool, true, false, cond, not, ◌&&◌, List, [], length, map, replicate, vec_items, vec_len, slice_index, slice_index_or}
 use Rattle.plans.specs.Flags.{has}
-use Rattle.rounds.specs.Rows.{both}
+use Rattle.rounds.specs.Rows.{both_rows}
 use Rattle.rounds.specs.declared.stages.Stage.{Stage}
 
 -- A stage with every pair left, which counts as one that lost a pair.
@@ -23,7 +23,7 @@ pub record Even (s : Stage) : Type 0 where
 
 -- Of what a round leaves, only the pairs stay that the row has too.
 pub record NarrowedBy (row : List Bool) (before after : Stage) : Type 0 where
-  pub next : vec_items after.next ≡ both (vec_items before.next) row
+  pub next : vec_items after.next ≡ both_rows (vec_items before.next) row
   pub alive : after.alive ≡ before.alive
   pub ranks : after.ranks ≡ before.ranks
   pub lost : after.lost ≡ before.lost

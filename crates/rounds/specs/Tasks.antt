@@ -31,7 +31,7 @@ TasksOf p tasks =
     AllZip (λ (q : Request) (t : Task). IsTask p.header.marks (vec_items p.conditions) (request_model q) t) (vec_items p.requests) tasks
 
 -- The task has the stages of q, a task of a domain of n conditions, and rows for where its keep and its reach hold.
-pub record Tells (n : ℕ) (q : Asked) (t : Task) : Type 0 where
+pub record IsDomainTask (n : ℕ) (q : Asked) (t : Task) : Type 0 where
   pub from : t.from ≡ q.from
   pub to : t.to ≡ q.to
   pub keep_long : length (vec_items t.keep) ≡ n
@@ -40,9 +40,9 @@ pub record Tells (n : ℕ) (q : Asked) (t : Task) : Type 0 where
   pub reach : Agree n (has (vec_items t.reach)) q.reach
 
 -- The tasks tell those of the domain, each the one at its place.
-pub record Told (D : Domain) (tasks : List Task) : Type 0 where
+pub record DomainTasks (D : Domain) (tasks : List Task) : Type 0 where
   pub many : length tasks ≡ length D.tasks
-  pub each : (i : ℕ) (d : Task) → i < length D.tasks → Tells D.conditions (task_at D i) (slice_index_or tasks i d)
+  pub each : (i : ℕ) (d : Task) → i < length D.tasks → IsDomainTask D.conditions (task_at D i) (slice_index_or tasks i d)
 
 -- What a task was made with stays.
 pub record SameTexts (before after : Task) : Type 0 where

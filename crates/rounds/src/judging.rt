@@ -6,7 +6,7 @@ ghost use Rattle.plans.specs.Domains.{domain_of};
 ghost use Rattle.port.specs.Model.{model_of};
 ghost use Rattle.index.specs.Indexed.{port_of};
 ghost use Rattle.rounds.specs.Stages.{Even, SettledAll, rank_row};
-ghost use Rattle.rounds.specs.Rounds.{Going, Ready, Turned, domain_in};
+ghost use Rattle.rounds.specs.Rounds.{Going, RoundReady, Turned, domain_in};
 ghost use Rattle.rounds.specs.Verdicts.{Judges};
 
 use crate::stages::{Stage, stages_of};
@@ -32,7 +32,7 @@ fn take_turns(
     tasks: &mut [Task],
     stages: &mut [Stage],
 ) -> Result<(), AllocError>
-    requires { Ready (domain_in index.now) tasks.old stages.old }
+    requires { RoundReady (domain_in index.now) tasks.old stages.old }
     ensures { OnOk result (Turned (domain_in index.now) stages.old tasks.new stages.new (length (domain_in index.now).tasks)) }
 {
     for task in tasks.iter_mut() {

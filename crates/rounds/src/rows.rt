@@ -1,7 +1,7 @@
 // Formulas, and rows of flags, a flag for each condition.
 ghost use Rattle.std.specs.Prelude.{◌≡◌, true, IfOk};
 ghost use Rattle.formula.specs.Truth.{is_formula, truth};
-ghost use Rattle.rounds.specs.Rows.{both, truths};
+ghost use Rattle.rounds.specs.Rows.{both_rows, truths};
 
 use port::Text;
 use std::alloc::{AllocError, Global};
@@ -35,7 +35,7 @@ impl Formula<'_> {
 
 // Where both rows have a flag.
 pub(crate) fn both(heap: Global, a: &[bool], b: &[bool]) -> Result<Vec<bool>, AllocError>
-    ensures { IfOk result (λ v. v.items ≡ both a.now b.now) }
+    ensures { IfOk result (λ v. v.items ≡ both_rows a.now b.now) }
 {
     a.iter().zip(b).map(|(a, b)| *a && *b).collect(heap)
 }

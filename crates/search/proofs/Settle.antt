@@ -5,7 +5,7 @@ use Rattle.port.specs.Limits.{In, Limited}
 use Rattle.port.specs.declared.Move.{Move}
 use Rattle.plans.specs.Plans.{Within, Plan, stop, work, Can, Possible, IsRun, Attains}
 use Rattle.costs.specs.Costs.{Model, WeakLaws, Sized, Le, cost, Reached}
-use Rattle.search.specs.Answers.{Prices, Best}
+use Rattle.search.specs.Answers.{Prices, BestToGoal}
 use Rattle.search.specs.Labels.{After, Worst, Offered, AtLeast, Final}
 use Rattle.costs.proofs.Order.{cost_sized}
 pub use Rattle.tables.proofs.Options.{AllSized, none_some, some_inj}
@@ -121,7 +121,7 @@ module _ {k : Model} (laws : WeakLaws k) (moves : List Move) (keep goal : ℕ �
               let ge : Le k g f = laws.chain g _ f gs (cost_sized laws down.0) fs down.2 (s.1.most down.0 down.1) in
               subst (Worst k (After V) (Can moves c o)) (laws.tie g f gs fs ge le) w
 
-      pub best : (c o : ℕ) (f : List ℕ) → V c ≡ Some f → goal c ≡ false → Worst k (After V) (Can moves c o) f → ((p : ℕ) → Worst k (After V) (Can moves c p) f → o ≤ p) → Best k moves keep goal c o f
+      pub best : (c o : ℕ) (f : List ℕ) → V c ≡ Some f → goal c ≡ false → Worst k (After V) (Can moves c o) f → ((p : ℕ) → Worst k (After V) (Can moves c p) f → o ≤ p) → BestToGoal k moves keep goal c o f
       best c o f e away w low = record {
         next = next final.prices;
         prices = begins final.prices c o f (final.by c f e away).0 w;

@@ -11,8 +11,8 @@ use Rattle.search.specs.Groups.{Lowest}
 use Rattle.costs.specs.Compare.{shown}
 use Rattle.search.specs.Labels.{After, Worst, Cheapest, Offered, Final, By, Few, done}
 use Rattle.tables.specs.Tables.{looked, LeastOf}
-use Rattle.search.specs.Answers.{Costs, Answer}
-use Rattle.search.specs.Steps.{start, Above, AllOffered, Early, State, Settled, Picked}
+use Rattle.search.specs.Answers.{Costs, RightChoice}
+use Rattle.search.specs.Steps.{start, Above, AllOffered, Early, SearchState, Settled, Picked}
 use Rattle.search.specs.declared.Choice.{Choice}
 use Rattle.search.specs.declared.Choice.TheVariants.{None as Nothing, There, Work}
 use Rattle.tables.specs.declared.Label.{Label}
@@ -104,7 +104,7 @@ module _ {A : Type 0} {k : Model} (laws : WeakLaws k) (e : A → List ℕ) (size
     pub above_start : (t u : List (Option A)) → length t ≡ n → ((c : ℕ) → c < n → looked e t c ≡ start k goal c) → Above k n (looked e t) (looked e u)
     above_start t u l h c d f g m p q = subst (λ x. Le k x g) (started t l h c f p).1 (laws.least g (looked_sized k e sized u d g q))
 
-    module _ (costs offers : List (Option A)) (state : State k e moves keep goal n costs offers) (b : Label A) (low : LeastOf k e offers (length offers) (Some b)) where
+    module _ (costs offers : List (Option A)) (state : SearchState k e moves keep goal n costs offers) (b : Label A) (low : LeastOf k e offers (length offers) (Some b)) where
       pub d_within : b.condition < n
       d_within = subst (λ m. b.condition < m) state.offers_sized low.0
 
@@ -195,7 +195,7 @@ module _ {A : Type 0} {k : Model} (laws : WeakLaws k) (e : A → List ℕ) (size
           (looked_sized k e sized costs) state.final (looked e offers) (looked_sized k e sized offers) state.offered d_within low.1
           (λ c g l p. low.2 c g (subst (λ m. c < m) (sym state.offers_sized) l) p)
 
-      pub state_next : (costs' offers' : List (Option A)) → costs' ≡ set costs b.condition (Some b.cost) → length offers' ≡ n → AllOffered k moves keep n (looked e costs') (looked e offers') → State k e moves keep goal n costs' offers' × (done costs' ≡ suc (done costs))
+      pub state_next : (costs' offers' : List (Option A)) → costs' ≡ set costs b.condition (Some b.cost) → length offers' ≡ n → AllOffered k moves keep n (looked e costs') (looked e offers') → SearchState k e moves keep goal n costs' offers' × (done costs' ≡ suc (done costs))
       state_next costs' offers' q l off = (
         record {
           costs_sized = ap length q ∙ length-set costs b.condition (Some b.cost) ∙ state.costs_sized;
@@ -209,7 +209,7 @@ module _ {A : Type 0} {k : Model} (laws : WeakLaws k) (e : A → List ℕ) (size
         ap done q ∙ done_next,
       )
 
-    pub settled : n ≤ 256 → (costs offers : List (Option A)) → State k e moves keep goal n costs offers → LeastOf k e offers (length offers) None → Settled k e moves keep goal n costs
+    pub settled : n ≤ 256 → (costs offers : List (Option A)) → SearchState k e moves keep goal n costs offers → LeastOf k e offers (length offers) None → Settled k e moves keep goal n costs
     settled small costs offers state none = record {
       sized = state.costs_sized;
       final = state.final;
@@ -219,7 +219,7 @@ module _ {A : Type 0} {k : Model} (laws : WeakLaws k) (e : A → List ℕ) (size
     }
 
     -- what is chosen by costs that are settled is the answer
-    pub answered : (costs : List (Option A)) → Settled k e moves keep goal n costs → (c : ℕ) → c < n → (x : Choice A) → Picked k e moves (looked e costs) goal c x → Answer k e moves keep goal c x
+    pub answered : (costs : List (Option A)) → Settled k e moves keep goal n costs → (c : ℕ) → c < n → (x : Choice A) → Picked k e moves (looked e costs) goal c x → RightChoice k e moves keep goal c x
     answered costs s c l Nothing h = go (looked e costs c) refl
       where
         go : (v : Option (List ℕ)) → looked e costs c ≡ v → (p : Plan) → Attains moves keep goal p c → ⊥

@@ -17,19 +17,19 @@ abbrev pub Prices : Model → List Move → (ℕ → Bool) → (ℕ → Bool) �
 Prices k moves keep goal c f p = Attains moves keep goal p c × Costs k moves p c f
 
 -- f is the least that a plan from c to the goal costs, and o is the lowest operation that begins a plan of that cost
-pub record Best (k : Model) (moves : List Move) (keep goal : ℕ → Bool) (c o : ℕ) (f : List ℕ) : Type 0 where
+pub record BestToGoal (k : Model) (moves : List Move) (keep goal : ℕ → Bool) (c o : ℕ) (f : List ℕ) : Type 0 where
   pub next : ℕ → Plan
   pub prices : Prices k moves keep goal c f (work o next)
   pub least : (p : Plan) → Attains moves keep goal p c → (g : List ℕ) × Costs k moves p c g × Le k f g
   pub lowest : (p : ℕ) (after : ℕ → Plan) → Prices k moves keep goal c f (work p after) → o ≤ p
 
 -- what the search may say of the condition c
-abbrev pub Answer : {A : Type 0} → Model → (A → List ℕ) → List Move → (ℕ → Bool) → (ℕ → Bool) → ℕ → Choice A → Type 0
-Answer k e moves keep goal c None = (p : Plan) → Attains moves keep goal p c → ⊥
-Answer k e moves keep goal c There = goal c ≡ true
-Answer k e moves keep goal c (Work o x) = (goal c ≡ false) × Best k moves keep goal c o (e x)
+abbrev pub RightChoice : {A : Type 0} → Model → (A → List ℕ) → List Move → (ℕ → Bool) → (ℕ → Bool) → ℕ → Choice A → Type 0
+RightChoice k e moves keep goal c None = (p : Plan) → Attains moves keep goal p c → ⊥
+RightChoice k e moves keep goal c There = goal c ≡ true
+RightChoice k e moves keep goal c (Work o x) = (goal c ≡ false) × BestToGoal k moves keep goal c o (e x)
 
 -- an answer for each of n conditions
 pub record Answers {A : Type 0} (n : ℕ) (k : Model) (e : A → List ℕ) (moves : List Move) (keep goal : List Bool) (r : List (Choice A)) : Type 0 where
   pub sized : length r ≡ n
-  pub each : (c : ℕ) → c < n → Answer k e moves (has keep) (has goal) c (slice_index_or r c None)
+  pub each : (c : ℕ) → c < n → RightChoice k e moves (has keep) (has goal) c (slice_index_or r c None)

@@ -33,7 +33,7 @@ abbrev pub Spare : {A : Type 0} → Model → (A → List ℕ) → ℕ → ℕ �
 Spare k e n steps t = (c : ℕ) → c < n → looked e t c ≡ None → Few k e steps t
 
 -- what the search keeps: the costs are final, and each other condition has what is on offer for it
-pub record State {A : Type 0} (k : Model) (e : A → List ℕ) (moves : List Move) (keep goal : ℕ → Bool) (n : ℕ) (costs offers : List (Option A)) : Type 0 where
+pub record SearchState {A : Type 0} (k : Model) (e : A → List ℕ) (moves : List Move) (keep goal : ℕ → Bool) (n : ℕ) (costs offers : List (Option A)) : Type 0 where
   pub costs_sized : length costs ≡ n
   pub offers_sized : length offers ≡ n
   pub final : Final k moves keep goal n (looked e costs)
@@ -53,15 +53,15 @@ pub record Settled {A : Type 0} (k : Model) (e : A → List ℕ) (moves : List M
   pub closed : (p : Plan) (c : ℕ) → c < n → looked e costs c ≡ None → Attains moves keep goal p c → ⊥
 
 -- the lowest operation at c that comes to what V has for it, with that cost
-abbrev pub Worked : {A : Type 0} → Model → (A → List ℕ) → List Move → (ℕ → Option (List ℕ)) → ℕ → Option (ℕ × A) → Type 0
-Worked k e moves V c None = (f : List ℕ) → V c ≡ Some f → (o : ℕ) → Worst k (After V) (Can moves c o) f → ⊥
-Worked k e moves V c (Some w) = (V c ≡ Some (e w.1)) × Worst k (After V) (Can moves c w.0) (e w.1) × ((p : ℕ) → Worst k (After V) (Can moves c p) (e w.1) → w.0 ≤ p)
+abbrev pub LowestAt : {A : Type 0} → Model → (A → List ℕ) → List Move → (ℕ → Option (List ℕ)) → ℕ → Option (ℕ × A) → Type 0
+LowestAt k e moves V c None = (f : List ℕ) → V c ≡ Some f → (o : ℕ) → Worst k (After V) (Can moves c o) f → ⊥
+LowestAt k e moves V c (Some w) = (V c ≡ Some (e w.1)) × Worst k (After V) (Can moves c w.0) (e w.1) × ((p : ℕ) → Worst k (After V) (Can moves c p) (e w.1) → w.0 ≤ p)
 
 -- what is chosen at c by the costs V
 abbrev pub Picked : {A : Type 0} → Model → (A → List ℕ) → List Move → (ℕ → Option (List ℕ)) → (ℕ → Bool) → ℕ → Choice A → Type 0
-Picked k e moves V goal c Nothing = (goal c ≡ false) × Worked k e moves V c None
+Picked k e moves V goal c Nothing = (goal c ≡ false) × LowestAt k e moves V c None
 Picked k e moves V goal c There = goal c ≡ true
-Picked k e moves V goal c (Work o x) = (goal c ≡ false) × Worked k e moves V c (Some (o, x))
+Picked k e moves V goal c (Work o x) = (goal c ≡ false) × LowestAt k e moves V c (Some (o, x))
 
 -- what is chosen at each of n conditions
 abbrev pub AllPicked : {A : Type 0} → Model → (A → List ℕ) → List Move → (ℕ → Option (List ℕ)) → (ℕ → Bool) → ℕ → List (Choice A) → Type 0

@@ -29,7 +29,7 @@ impl<C: CostModel> Known<'_, '_, '_, C> {
     ghost use Rattle.index.specs.Indexes.{Apart};
     ghost use Rattle.plans.specs.Flags.{has};
     ghost use Rattle.search.specs.Labels.{Offered};
-    ghost use Rattle.search.specs.Steps.{AllOffered, AllPicked, Picked, Worked};
+    ghost use Rattle.search.specs.Steps.{AllOffered, AllPicked, LowestAt, Picked};
     ghost use Rattle.tables.specs.Tables.{looked};
 
     // Whether `c` has no cost yet and may be worked in.
@@ -71,7 +71,7 @@ impl<C: CostModel> Known<'_, '_, '_, C> {
 
     // The lowest operation that begins a cheapest plan from `c`, with the cost.
     fn work(&self, c: usize) -> Option<(u8, C::Cost)>
-        ensures { Worked C.model C.exact (moves_of self.now.index.now) (looked C.exact self.now.costs.now) c result }
+        ensures { LowestAt C.model C.exact (moves_of self.now.index.now) (looked C.exact self.now.costs.now) c result }
     {
         let cost = cost_at(self.costs, c)?;
         let lowest = self.operation(self.index.moves_from(c), cost)?;

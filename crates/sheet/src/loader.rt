@@ -4,7 +4,7 @@ ghost use Rattle.port.specs.Model.{Model, model_of};
 ghost use Rattle.port.specs.Valid.{Valid};
 ghost use Rattle.records.specs.Drafts.{draft_model};
 ghost use Rattle.reading.specs.Theorems.{Grammatical, Only};
-ghost use Rattle.sheet.specs.Loading.{Holds, Loaded, Tells};
+ghost use Rattle.sheet.specs.Loading.{HoldsPort, Loaded, TellsReading};
 ghost use Rattle.reading.specs.Reading.{finish, held, reading, records};
 ghost use Rattle.reading.specs.SheetOf.{sheet_of};
 
@@ -17,7 +17,7 @@ use std::alloc::Global;
 
 // Reads records until the bytes end, and tells how many there are.
 fn read_records(reader: &mut Reader, draft: &mut Draft, heap: Global) -> Result<usize, LoadError>
-    ensures { (fuel : ℕ) → length reader.old.rest.now ≤ fuel → Tells (λ n. finish n (draft_model draft.new)) (records fuel 0 (draft_model draft.old) reader.old.place reader.old.rest.now) result }
+    ensures { (fuel : ℕ) → length reader.old.rest.now ≤ fuel → TellsReading (λ n. finish n (draft_model draft.new)) (records fuel 0 (draft_model draft.old) reader.old.place reader.old.rest.now) result }
 {
     // Stays: the count by hand, since the records end where the bytes do, and no range or iterator tells when that is.
     let mut count = 0;
@@ -34,7 +34,7 @@ fn read_records(reader: &mut Reader, draft: &mut Draft, heap: Global) -> Result<
 
 // What a sheet tells of a port.
 fn read_draft(heap: Global, sheet: &[u8]) -> Result<Draft, LoadError>
-    ensures { Tells (λ d. held (draft_model d)) (reading sheet.now) result }
+    ensures { TellsReading (λ d. held (draft_model d)) (reading sheet.now) result }
 {
     let mut reader = Reader::new(sheet);
     let mut draft = Draft::begin(&mut reader, heap)?;
@@ -50,7 +50,7 @@ fn read_draft(heap: Global, sheet: &[u8]) -> Result<Draft, LoadError>
 
 // The port that a sheet tells.
 fn read_port(heap: Global, sheet: &[u8]) -> Result<Port, LoadError>
-    ensures { Tells (λ p. held (model_of p)) (reading sheet.now) result }
+    ensures { TellsReading (λ p. held (model_of p)) (reading sheet.now) result }
 {
     Ok(seal(read_draft(heap, sheet)?))
 }
@@ -61,7 +61,7 @@ pub fn load(port: &mut Port, heap: Global, sheet: &[u8]) -> Result<(), LoadError
     ensures read { Loaded sheet.now port.old port.new result }
     ensures written { OnOk result (Valid (model_of port.new) × (sheet.now ≡ sheet_of (model_of port.new))) }
     ensures only { OnOk result (Only sheet.now (model_of port.new)) }
-    ensures accepts { (m : Model) → Valid m → sheet.now ≡ sheet_of m → Holds m port.new result }
+    ensures accepts { (m : Model) → Valid m → sheet.now ≡ sheet_of m → HoldsPort m port.new result }
     ensures words { Grammatical }
 {
     let read = read_port(heap, sheet)?;

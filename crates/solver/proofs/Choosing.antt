@@ -5,7 +5,7 @@ use Rattle.std.proofs.lemmas.List.{get_or_append_left, get_or-append-add}
 use Rattle.plans.specs.Simulation.{Domain}
 use Rattle.costs.specs.Costs.{Model}
 use Rattle.plans.specs.Flags.{has}
-use Rattle.search.specs.Answers.{Answer, Answers}
+use Rattle.search.specs.Answers.{Answers, RightChoice}
 use Rattle.search.specs.declared.Choice.{Choice}
 use Rattle.search.specs.declared.Choice.TheVariants.{None}
 use Rattle.solver.specs.Choices.{Chosen, ChosenRow}
@@ -26,7 +26,7 @@ module _ {A : Type 0} (k : Model) (e : A → List ℕ) (D : Domain) where
   -- the same row, where it is read from another list
   same_row : (i : ℕ) (old new : ℕ → Choice A) → ((c : ℕ) → c < D.conditions → new c ≡ old c) → ChosenRow k e D i old → ChosenRow k e D i new
   same_row i old new same r =
-      (r.0, r.1, r.2, r.3, λ c l. subst (λ (x : Choice A). Answer k e D.moves r.0 r.1 c x) (sym (same c l)) (r.4 c l))
+      (r.0, r.1, r.2, r.3, λ c l. subst (λ (x : Choice A). RightChoice k e D.moves r.0 r.1 c x) (sym (same c l)) (r.4 c l))
 
   pub chosen_more : (choices row more : List (Choice A)) (i : ℕ) → more ≡ choices ++ row → ChosenTo k e D choices i → length row ≡ D.conditions →
       ChosenRow k e D i (λ c. get_or row c None) → ChosenTo k e D more (i + 1)

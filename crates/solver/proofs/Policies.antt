@@ -6,10 +6,10 @@ use Rattle.plans.specs.Simulation.{WellFormed, Kept}
 use Rattle.plans.specs.Flags.{task_at}
 use Rattle.plans.proofs.Attain.{run_moves, stop_attains}
 use Rattle.plans.proofs.Serve.{end_within}
-use Rattle.search.specs.Answers.{Answer}
+use Rattle.search.specs.Answers.{RightChoice}
 use Rattle.search.specs.declared.Choice.{Choice}
 use Rattle.search.specs.declared.Choice.TheVariants.{None, There, Work}
-use Rattle.solver.specs.Choices.{entry_of, exact_of}
+use Rattle.solver.specs.Choices.{choice_entry, exact_of}
 use Rattle.solver.specs.Policy.{World, Safe, Right}
 
 module _ (w : World) (wf : WellFormed w.domain) (q : ℕ) (keep goal : ℕ → Bool)
@@ -47,8 +47,8 @@ module _ (w : World) (wf : WellFormed w.domain) (q : ℕ) (keep goal : ℕ → B
       inside ms r = end_within w.domain.conditions moves wf.within plan c ms l r
 
   -- an answer of the search is a right entry
-  pub answer_right : {A : Type 0} (e : A → List ℕ) (c : ℕ) → c < w.domain.conditions → (x : Choice A) → Answer w.model e moves keep goal c x →
-      Right w q c (entry_of x) (exact_of w.model e x)
+  pub answer_right : {A : Type 0} (e : A → List ℕ) (c : ℕ) → c < w.domain.conditions → (x : Choice A) → RightChoice w.model e moves keep goal c x →
+      Right w q c (choice_entry x) (exact_of w.model e x)
   answer_right e c l None a = (λ plan s. a plan (safe_attains plan c l s), refl)
   answer_right e c l There a = (attains_safe stop c l (stop_attains moves keep goal c a), refl)
   answer_right e c l (Work o x) a = (

@@ -9,9 +9,9 @@ use Rattle.plans.proofs.Flags.{row_within}
 use Rattle.costs.specs.Costs.{Model}
 use Rattle.search.specs.declared.Choice.{Choice}
 use Rattle.search.specs.declared.Choice.TheVariants.{None}
-use Rattle.solver.specs.Choices.{entry_of, exact_of}
+use Rattle.solver.specs.Choices.{choice_entry, exact_of}
 use Rattle.solver.specs.Policy.{World, Solved, Right, world_of}
-use Rattle.solver.specs.Solving.{Filled, Tabled, Worked, enough, largest_of, pairs_of, start_of, zeros}
+use Rattle.solver.specs.Solving.{Filled, RightSolution, Tabled, enough, largest_of, pairs_of, start_of, zeros}
 use Rattle.solver.specs.declared.Summary.{Summary}
 use Rattle.port.specs.Model.{model_of}
 use Rattle.port.specs.declared.held.Port.{Port}
@@ -26,9 +26,9 @@ front : {A B : Type 0} (f : A → B) (src : List A) (out : List B) (d : A) (e : 
     get_or out i e ≡ f (get_or src i d)
 front f src out d e i h l = sym (get_or-take (length src) out i e l) ∙ ap (λ xs. get_or xs i e) h ∙ get_or-map f src i d e l
 
-module _ {K : Type 0} (k : Model) (e : K → List ℕ) (D : Domain) (wf : WellFormed D) (choices : List (Choice K)) (from : List ℕ) (w : Worked k e D choices from)
+module _ {K : Type 0} (k : Model) (e : K → List ℕ) (D : Domain) (wf : WellFormed D) (choices : List (Choice K)) (from : List ℕ) (w : RightSolution k e D choices from)
     (entries : List Entry) (costs : List K) (ranks : List ℕ)
-    (entries-here : take (length choices) entries ≡ map entry_of choices)
+    (entries-here : take (length choices) entries ≡ map choice_entry choices)
     (costs-here : take (length choices) (map e costs) ≡ map (exact_of k e) choices)
     (ranks-here : take (length from) ranks ≡ from) where
   place : (q c : ℕ) → q < length D.tasks → c < D.conditions → q * D.conditions + c < length choices
@@ -50,19 +50,19 @@ module _ {K : Type 0} (k : Model) (e : K → List ℕ) (D : Domain) (wf : WellFo
         let row = w.chosen.rows q l in
         let i : ℕ = q * D.conditions + c in
         let W : World = world_of D k e entries costs ranks in
-        let right : Right W q c (entry_of (get_or choices i None)) (exact_of k e (get_or choices i None)) =
+        let right : Right W q c (choice_entry (get_or choices i None)) (exact_of k e (get_or choices i None)) =
         answer_right W wf q row.0 row.1 row.2 row.3 e c h (get_or choices i None) (row.4 c h) in
-        subst (λ (x : Entry). Right W q c x (W.cost q c)) (sym (front entry_of choices entries None NoEntry i entries-here (place q c l h)))
-        (subst (λ (f : List ℕ). Right W q c (entry_of (get_or choices i None)) f) (sym (front (exact_of k e) choices (map e costs) None k.zero i costs-here (place q c l h))) right);
+        subst (λ (x : Entry). Right W q c x (W.cost q c)) (sym (front choice_entry choices entries None NoEntry i entries-here (place q c l h)))
+        (subst (λ (f : List ℕ). Right W q c (choice_entry (get_or choices i None)) f) (sym (front (exact_of k e) choices (map e costs) None k.zero i costs-here (place q c l h))) right);
   }
 
 -- The same of tables of the port's own size.
-pub worked_tabled : {K : Type 0} (k : Model) (e : K → List ℕ) (D : Domain) → WellFormed D → (choices : List (Choice K)) (ranks : List ℕ) → Worked k e D choices ranks →
-    (entries : List Entry) (costs : List K) → entries ≡ map entry_of choices → map e costs ≡ map (exact_of k e) choices → (start_at : ℕ) (summary : Summary) →
+pub worked_tabled : {K : Type 0} (k : Model) (e : K → List ℕ) (D : Domain) → WellFormed D → (choices : List (Choice K)) (ranks : List ℕ) → RightSolution k e D choices ranks →
+    (entries : List Entry) (costs : List K) → entries ≡ map choice_entry choices → map e costs ≡ map (exact_of k e) choices → (start_at : ℕ) (summary : Summary) →
     summary.kept ≡ zeros ranks → summary.rounds ≡ largest_of ranks → summary.start ≡ get_or ranks start_at 0 →
     Tabled D k e start_at entries costs ranks summary
 worked_tabled k e D wf choices ranks w entries costs entries-made costs-made start_at summary kept rounds start =
-    let many : length entries ≡ length choices = ap length entries-made ∙ length-map choices entry_of in
+    let many : length entries ≡ length choices = ap length entries-made ∙ length-map choices choice_entry in
     let costed : length (map e costs) ≡ length choices = ap length costs-made ∙ length-map choices (exact_of k e) in
     let entries-here = take_all (length choices) entries (omega (arith, many)) ∙ entries-made in
     let costs-here = take_all (length choices) (map e costs) (omega (arith, costed)) ∙ costs-made in

@@ -3,7 +3,7 @@ use Rattle.std.specs.Prelude.{◌≡◌, ℕ, ◌+◌, ◌*◌, ◌<◌, Bool, t
 use Rattle.plans.specs.Simulation.{Domain, Kept}
 use Rattle.plans.specs.Flags.{task_at}
 use Rattle.costs.specs.Costs.{Model}
-use Rattle.search.specs.Answers.{Answer}
+use Rattle.search.specs.Answers.{RightChoice}
 use Rattle.search.specs.declared.Choice.{Choice}
 use Rattle.search.specs.declared.Choice.TheVariants.{None, There, Work}
 use Rattle.solver.specs.declared.Entry.{Entry}
@@ -11,10 +11,10 @@ use Rattle.solver.specs.declared.Entry.TheVariants.{None as NoEntry, There as Th
 use Rattle.rounds.specs.Rows.{Agree}
 
 -- The entry and the exact cost of a choice.
-abbrev pub entry_of : {A : Type 0} → Choice A → Entry
-entry_of None = NoEntry
-entry_of There = ThereEntry
-entry_of (Work o x) = WorkEntry o
+abbrev pub choice_entry : {A : Type 0} → Choice A → Entry
+choice_entry None = NoEntry
+choice_entry There = ThereEntry
+choice_entry (Work o x) = WorkEntry o
 
 abbrev pub exact_of : {A : Type 0} → Model → (A → List ℕ) → Choice A → List ℕ
 exact_of k e None = k.zero
@@ -27,7 +27,7 @@ ChosenRow k e D i row =
     (keep : ℕ → Bool) × (goal : ℕ → Bool)
     × Agree D.conditions keep (task_at D i).keep
     × ((c : ℕ) → c < D.conditions → (goal c ≡ true) ↔ (((task_at D i).reach c ≡ true) × Kept D (task_at D i).to c))
-    × ((c : ℕ) → c < D.conditions → Answer k e D.moves keep goal c (row c))
+    × ((c : ℕ) → c < D.conditions → RightChoice k e D.moves keep goal c (row c))
 
 -- Such a row of choices for each task, one after another.
 pub record Chosen {A : Type 0} (k : Model) (e : A → List ℕ) (D : Domain) (choices : List (Choice A)) : Type 0 where

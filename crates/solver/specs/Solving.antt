@@ -13,9 +13,9 @@ use Rattle.search.specs.declared.Choice.{Choice}
 use Rattle.port.specs.Model.{Model as PortModel}
 
 -- the number of a refusal; want of memory has none
-abbrev pub refusal_number : SolveError → Option ℕ
-refusal_number Short = Some 12
-refusal_number Memory = None
+abbrev pub solve_error_number : SolveError → Option ℕ
+solve_error_number Short = Some 12
+solve_error_number Memory = None
 
 -- what is printed of a number, or of none
 abbrev pub number_text : Option ℕ → List ℕ
@@ -23,15 +23,15 @@ number_text (Some n) = codes "refused " ++ decimal n
 number_text None = codes "no memory"
 
 -- what a refusal is printed as: by its number, where it has one
-abbrev pub refusal_text : SolveError → List ℕ
-refusal_text e = number_text (refusal_number e)
+abbrev pub solve_error_text : SolveError → List ℕ
+solve_error_text e = number_text (solve_error_number e)
 
 -- the place of the start pair among the ranks
 abbrev pub start_of : PortModel → ℕ
 start_of m = m.header.stage * length m.conditions + m.header.condition
 
 -- the choices and ranks that a port comes to
-pub record Worked {K : Type 0} (k : Model) (e : K → List ℕ) (D : Domain) (choices : List (Choice K)) (ranks : List ℕ) : Type 0 where
+pub record RightSolution {K : Type 0} (k : Model) (e : K → List ℕ) (D : Domain) (choices : List (Choice K)) (ranks : List ℕ) : Type 0 where
   pub ranked : RankRows D ranks
   pub chosen : Chosen k e D choices
 

@@ -3,7 +3,7 @@
 
 ghost use Rattle.std.specs.Prelude.{◌≡◌, Some};
 ghost use Rattle.solver.specs.Policy.{entry_byte, entry_text};
-ghost use Rattle.solver.specs.Solving.{refusal_number, refusal_text};
+ghost use Rattle.solver.specs.Solving.{solve_error_number, solve_error_text};
 
 mod policy;
 mod solution;
@@ -78,7 +78,7 @@ impl SolveError {
     // The number of a refusal; want of memory has none.
     // Stays: a rule of the project: docs/CALLS.md knows this refusal by its number.
     pub fn number(self) -> Option<u8>
-        ensures { result ≡ refusal_number self }
+        ensures { result ≡ solve_error_number self }
     {
         match self {
             SolveError::Short => Some(12),
@@ -88,7 +88,7 @@ impl SolveError {
 }
 
 impl fmt::Display for SolveError {
-    ghost output = { λ e. Some (refusal_text e) };
+    ghost output = { λ e. Some (solve_error_text e) };
 
     fn fmt<W: fmt::Write>(&self, f: &mut fmt::Formatter<W>) -> fmt::Result {
         match self.number() {

@@ -2,7 +2,7 @@
 ghost use Rattle.std.specs.Prelude.{◌≡◌, ◌+◌, ◌*◌, ◌&&◌, length, IfOk, nat_le, slice_index};
 ghost use Rattle.plans.specs.Domains.{domain_of};
 ghost use Rattle.port.specs.Model.{model_of};
-ghost use Rattle.solver.specs.Solving.{Outcome, Tabled, Worked, largest_of, pairs_of, places_of, start_of, zeros};
+ghost use Rattle.solver.specs.Solving.{Outcome, RightSolution, Tabled, largest_of, pairs_of, places_of, start_of, zeros};
 ghost use Rattle.solver.specs.declared.SolveError.TheVariants.{Memory};
 
 use crate::policy::choose_all;
@@ -31,7 +31,7 @@ impl From<AllocError> for SolveError {
 }
 
 fn work_out<C: CostModel>(heap: Global, port: &Port) -> Result<Solution<C::Cost>, AllocError>
-    ensures { IfOk result (λ s. Worked C.model C.exact (domain_of (model_of port.now)) s.choices.items s.ranks.items) }
+    ensures { IfOk result (λ s. RightSolution C.model C.exact (domain_of (model_of port.now)) s.choices.items s.ranks.items) }
 {
     let Verdict {
         index,

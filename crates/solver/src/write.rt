@@ -1,6 +1,6 @@
 // What choices are in a policy's tables, and what the ranks come to.
 ghost use Rattle.std.specs.Prelude.{◌≡◌, IfOk, map};
-ghost use Rattle.solver.specs.Choices.{entry_of, exact_of};
+ghost use Rattle.solver.specs.Choices.{choice_entry, exact_of};
 ghost use Rattle.solver.specs.Solving.{largest_of, zeros};
 
 use crate::Entry;
@@ -9,7 +9,7 @@ use search::Choice;
 use std::alloc::{AllocError, Global};
 
 impl<K: Copy> From<Choice<K>> for Entry {
-    ghost from_gives = { λ choice entry. entry ≡ entry_of choice };
+    ghost from_gives = { λ choice entry. entry ≡ choice_entry choice };
 
     fn from(choice: Choice<K>) -> Entry {
         match choice {
@@ -35,7 +35,7 @@ pub(crate) fn entries_of<K: Copy>(
     heap: Global,
     choices: &[Choice<K>],
 ) -> Result<Vec<Entry>, AllocError>
-    ensures { IfOk result (λ v. v.items ≡ map entry_of choices.now) }
+    ensures { IfOk result (λ v. v.items ≡ map choice_entry choices.now) }
 {
     choices
         .iter()

@@ -6,7 +6,7 @@ use Rattle.search.specs.Labels.{Offered, done}
 use Rattle.tables.specs.Tables.{looked, LeastOf}
 use Rattle.plans.specs.Flags.{has}
 use Rattle.index.specs.Indexed.{count_of, moves_of, port_of}
-use Rattle.search.specs.Steps.{AllOffered, Early, Spare, State, start}
+use Rattle.search.specs.Steps.{AllOffered, Early, SearchState, Spare, start}
 use Rattle.index.proofs.Bounds.{index_limited, index_within}
 use Rattle.costs.proofs.Order.{weaken}
 use Rattle.search.proofs.Few.{early_all, spare_all}
@@ -169,7 +169,7 @@ loop-label-preserved g c =
     let off : AllOffered k.model ms keep n (looked k.exact new) (looked k.exact c.renew.new.offers) =
     λ d l. subst (λ t. Offered k.model ms keep (looked k.exact t) d (looked k.exact c.renew.new.offers d)) cv (c.renew.ensures d (subst (λ m. d < m) (sym all) l)) in
     let s = state_next laws k.exact g.met.C.CostModel.sized ms keep goal n within limited costs offers state b low new c.renew.new.offers refl size off in
-    subst (State k.model k.exact ms keep goal n new) (sym kept) s.0
+    subst (SearchState k.model k.exact ms keep goal n new) (sym kept) s.0
 
 pub returns : goal.returns
 returns g c =

@@ -2,7 +2,7 @@ use Rattle.std.proofs.Common.{ℕ, List, map, get_or, vec_items, ap, ◌∙◌}
 use Rattle.port.specs.Model.{model_of}
 use Rattle.plans.specs.Domains.{domain_of}
 use Rattle.plans.proofs.Formed.{port_formed}
-use Rattle.solver.specs.Choices.{entry_of, exact_of}
+use Rattle.solver.specs.Choices.{choice_entry, exact_of}
 use Rattle.solver.specs.Solving.{largest_of, start_of, zeros}
 use Rattle.solver.proofs.Solutions.{worked_tabled}
 use Rattle.solver.proofs.solution.solved.Goals as goal
@@ -17,6 +17,6 @@ returns g c =
     let told = c.summarize-summary.ensures in
     worked_tabled k e (domain_of (model_of p)) (port_formed p) (vec_items c.in_ok-choices.field-0.choices) (vec_items c.in_ok-choices.field-0.ranks) c.in_ok-choices.ensures
     (vec_items c.in_ok-entries.entries) (vec_items c.in_ok-costs.costs)
-    (c.in_ok-entries.ensures ∙ ap (λ cs. map entry_of cs) c.deref.ensures.value)
+    (c.in_ok-entries.ensures ∙ ap (λ cs. map choice_entry cs) c.deref.ensures.value)
     (c.in_ok-costs.ensures ∙ ap (λ cs. map (exact_of k e) cs) c.deref-2.ensures.value)
     start c.summarize-summary.result (told.kept ∙ ap zeros same) (told.rounds ∙ ap largest_of same) (told.start ∙ ap (λ (rs : List ℕ). get_or rs start 0) same)

@@ -5,7 +5,7 @@ use Rattle.costs.specs.Compare.{shown}
 use Rattle.index.specs.Indexed.{moves_of}
 use Rattle.search.specs.Groups.{Lowest}
 use Rattle.search.specs.Labels.{After, Worst}
-use Rattle.search.specs.Steps.{Worked}
+use Rattle.search.specs.Steps.{LowestAt}
 use Rattle.tables.specs.Tables.{looked}
 use Rattle.tables.proofs.Options.{some_inj}
 use Rattle.search.proofs.Steps.{lowest_from, none_from}
@@ -19,7 +19,7 @@ returns-in_err-lowest g c =
     let f = k.exact c.in_ok-cost.cost in
     let has : V c.args.c ≡ Some f = ap (shown k.exact) (sym c.cost_at.ensures ∙ c.in_ok-cost.was) in
     let none : Lowest k.model V c.moves_from.result.now f None = subst (Lowest k.model V c.moves_from.result.now f) c.in_err-lowest.was c.operation.ensures in
-    let told : Worked k.model k.exact ms V c.args.c None =
+    let told : LowestAt k.model k.exact ms V c.args.c None =
     λ h e o w. none_from k.model V ms c.args.c c.moves_from.result.now c.moves_from.ensures.from f none o (subst (Worst k.model (After V) (Can ms c.args.c o)) (some_inj (sym e ∙ has)) w) in
     search rules
 
