@@ -1,7 +1,7 @@
 // The text of a formula: sums of products of atoms, over bytes. Readers of the three call each other.
 #![tactic(auto)]
 
-ghost use Rattle.std.specs.Prelude.{◌≡◌, ◌≤◌, true, false, length, MatchOption, MatchResult};
+ghost use Rattle.std.specs.Prelude.{◌≡◌, ℕ, ◌≤◌, true, false, length, MatchOption, MatchResult};
 ghost use Rattle.formula.specs.Grammar.{
   AtomRead,
   NoFormula,
@@ -159,7 +159,7 @@ pub fn evaluate(text: &[u8], count: u8, marks: u16) -> Result<bool, FormulaFault
 
 // Whether the text is a formula over that many marks, or the first place where no formula goes on.
 pub fn check(text: &[u8], count: u8) -> Result<(), FormulaFault>
-    ensures { MatchResult result (λ _. (verdict count text.now ≡ whole) × (is_formula count text.now ≡ true)) (λ e. (verdict count text.now ≡ stuck e.place) × (e.place ≤ length text.now) × NoFormula count text.now e.place) }
+    ensures { MatchResult result (λ _. (verdict count text.now ≡ whole) × (is_formula count text.now ≡ true) × ((m : ℕ) → Whole count m text.now (truth count m text.now))) (λ e. (verdict count text.now ≡ stuck e.place) × (e.place ≤ length text.now) × NoFormula count text.now e.place) }
 {
     evaluate(text, count, 0)?;
     Ok(())
