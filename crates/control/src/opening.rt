@@ -18,8 +18,8 @@ use port::Port;
 
 impl<'a, C: CostModel> Controller<'a, C> {
     // Opens a controller at the port's start stage, over a lock that stands there in a condition of rank 0. Where policy and ranks are as
-    // solving leaves them, every history of calls from here on a lock of this port has the promise, and the opening is refused exactly where
-    // no simulation holds the start.
+    // solving leaves them, every history of calls from here on a lock of this port has the promise, and the opening, if no table is too short
+    // for the port, is refused exactly where no simulation holds the start.
     pub fn open<L: Lock>(
         port: &'a Port,
         policy: Policy<'a, C::Cost>,
