@@ -1,5 +1,5 @@
 -- Tests of all numbers below one, and of all items of a list.
-use Rattle.std.proofs.Common.{◌≡◌, ℕ, ◌<◌, ◌≤◌, Bool, true, false, not, ◌||◌, leb, ◌↔◌, List, refl, leb-true, le-leb}
+use Rattle.std.proofs.Common.{◌≡◌, ℕ, ◌<◌, ◌≤◌, Bool, true, false, not, ◌||◌, leb, ◌↔◌, List, refl, true≢false, leb-true, le-leb}
 use mathlib.Core.Bool.{false≢true}
 use Rattle.port.specs.Limits.{In}
 use Rattle.plans.specs.Flags.{every}
@@ -23,3 +23,8 @@ where_iff a b p q = (λ e x. q.0 ((implies a b).0 e (p.1 x)), λ h. (implies a b
 pub not_iff : {P : Type 0} (a : Bool) → (a ≡ true) ↔ P → (not a ≡ true) ↔ (P → ⊥)
 not_iff true p = (λ e. absurd (false≢true e), λ h. absurd (h (p.0 refl)))
 not_iff false p = (λ e x. false≢true (p.1 x), λ h. refl)
+
+-- unless one test passes, something is so
+pub unless_iff : {P : Type 0} (a b : Bool) → (b ≡ true) ↔ P → ((a || b) ≡ true) ↔ (a ≡ false → P)
+unless_iff true b p = (λ e f. absurd (true≢false f), λ h. refl)
+unless_iff false b p = (λ e f. p.0 e, λ h. p.1 (h refl))

@@ -4,15 +4,12 @@ use mathlib.Core.Bool.{false≢true}
 use Rattle.port.specs.Limits.{In, at}
 use Rattle.port.specs.declared.Move.{Move}
 use Rattle.plans.specs.Flags.{has, every}
-use Rattle.plans.specs.Plans.{Can}
 use Rattle.plans.specs.Reach.{each}
 use Rattle.plans.proofs.Decide.{or_cases, or_left, or_right}
 use Rattle.locks.specs.Places.{fits}
-use Rattle.locks.proofs.Standing.{fits_true, fits_parts}
-use Rattle.costs.specs.declared.models.Time.{Time}
-use Rattle.costs.specs.Models.{minutes_model, time_list, time_sized}
-use Rattle.tables.proofs.Options.{AllSized, looked_sized}
-use Rattle.search.specs.Labels.{After, Worst, Greatest, Cheapest, By, Offered}
+use Rattle.costs.specs.Models.{minutes_model}
+use Rattle.tables.proofs.Options.{AllSized}
+use Rattle.search.specs.Labels.{After, Worst, Greatest, By}
 use Rattle.search.specs.Groups.{Same, Splits, Lowest, Topped, Below, Left, Lowered, Unmet}
 use Rattle.search.proofs.Runs.{worst_map}
 use Rattle.cases_plans.proofs.Rows.{right, all_say}
@@ -21,6 +18,7 @@ use Rattle.cases_plans.proofs.Values.{told, values_say, same_option, option_tell
 use Rattle.cases_search.specs.Sluice.{moves}
 use Rattle.cases_search.specs.Labels.{Claim, after, worst, greatest, cheapest, offered, by, same, splits, lowest, topped, under, left, lowered, unmet, costs_in, Means, rows, LabelsSay, counts, CountsSay}
 use Rattle.cases_search.proofs.Combine.{every_iff, each_iff, at_most, where_iff, not_iff}
+use Rattle.cases_search.proofs.Offers.{sized_in, fits_named, none_iff, worst_at, cheapest_test, cheapest_decided, offered_test, offered_decided}
 use Rattle.cases_search.proofs.Runs.{so_iff, same_cost, costs_tell}
 use Rattle.cases_search.proofs.Worsts.{Of, worst_test, worst_decided, found, found_test, only, all_worst_iff, some_op_test, some_op_iff, each_op_test, each_op_iff, all_found, ops_test, ops_iff}
 
@@ -29,9 +27,6 @@ all_told = refl
 
 pub counts_say : CountsSay
 counts_say = values_say counts all_told
-
-pub sized_in : (t : List (Option Time)) → AllSized minutes_model (costs_in t)
-sized_in t = looked_sized minutes_model time_list time_sized t
 
 or_iff : {P Q : Type 0} (a b : Bool) → (a ≡ true) ↔ P → (b ≡ true) ↔ Q → ((a || b) ≡ true) ↔ (P ⊎ Q)
 or_iff a b p q = (
@@ -51,9 +46,6 @@ op o m = eqb m.operation o
 pub op_named : (o : ℕ) (m : Move) → op o m ≡ true → m.operation ≡ o
 op_named o m e = eqb-true m.operation o e
 
-pub fits_named : (c o : ℕ) (m : Move) → fits c o m ≡ true → m.operation ≡ o
-fits_named c o m e = let f = fits_parts c o m e in f.1
-
 module _ (V : ℕ → Option (List ℕ)) where
   abbrev Worsts : (Move → Type 0) → List ℕ → Type 0
   Worsts P f = Worst minutes_model (After V) P f
@@ -64,21 +56,11 @@ module _ (V : ℕ → Option (List ℕ)) where
   listed_from : (ms : List Move) (f : List ℕ) → Worsts (λ m. In m ms) f → Worsts (Of V ms any) f
   listed_from ms f w = worst_map (λ m i. (i, refl)) (λ m h. h.0) w
 
-  pub can_to : (c o : ℕ) (f : List ℕ) → Worsts (Of V moves (fits c o)) f → Worsts (Can moves c o) f
-  can_to c o f w = worst_map (λ m h. let g = fits_parts c o m h.1 in (h.0, g.0, g.1)) (λ m can. (can.0, fits_true c o m can.1 can.2)) w
-
-  pub can_from : (c o : ℕ) (f : List ℕ) → Worsts (Can moves c o) f → Worsts (Of V moves (fits c o)) f
-  can_from c o f w = worst_map (λ m can. (can.0, fits_true c o m can.1 can.2)) (λ m h. let g = fits_parts c o m h.1 in (h.0, g.0, g.1)) w
-
   by_to : (ms : List Move) (o : ℕ) (f : List ℕ) → Worsts (Of V ms (op o)) f → Worsts (By ms o) f
   by_to ms o f w = worst_map (λ m h. (h.0, (equal m.operation o).0 h.1)) (λ m b. (b.0, (equal m.operation o).1 b.1)) w
 
   by_from : (ms : List Move) (o : ℕ) (f : List ℕ) → Worsts (By ms o) f → Worsts (Of V ms (op o)) f
   by_from ms o f w = worst_map (λ m b. (b.0, (equal m.operation o).1 b.1)) (λ m h. (h.0, (equal m.operation o).0 h.1)) w
-
-  -- no cost at all; no less than one
-  none_iff : (a : List ℕ) → (false ≡ true) ↔ ⊥
-  none_iff a = (λ e. false≢true e, λ h. absurd h)
 
   abbrev greatest_test : List Move → Option (List ℕ) → Bool
   greatest_test ms None = only (λ a. false) (found V ms any)
@@ -91,41 +73,6 @@ module _ (V : ℕ → Option (List ℕ)) where
   greatest_decided sized ms (Some f) e =
       let one = worst_decided V ms any f in
       (λ h. listed_to ms f (one.0 h), λ w. one.1 (listed_from ms f w))
-
-  abbrev cheapest_test : ℕ → Option (List ℕ) → Bool
-  cheapest_test c None = ops_test V moves (fits c) (fits_named c) (λ o. true) (λ a. false)
-  cheapest_test c (Some f) = some_op_test V moves (fits c) (fits_named c) f && ops_test V moves (fits c) (fits_named c) (λ o. true) (λ g. minutes_model.within f g)
-
-  cheapest_decided : AllSized minutes_model V → (c : ℕ) (x : Option (List ℕ)) → all_found V moves (fits c) (fits_named c) ≡ true →
-      (cheapest_test c x ≡ true) ↔ Cheapest minutes_model V (Can moves c) x
-  cheapest_decided sized c None e =
-      let all = ops_iff V moves (fits c) (fits_named c) {R = λ o. Unit {0}} sized (λ o. true) (λ a. false) (λ o. (λ h. tt, λ h. refl)) none_iff e in
-      (λ h o g w. all.0 h o g tt (can_from c o g w), λ h. all.1 (λ o g u w. h o g (can_to c o g w)))
-  cheapest_decided sized c (Some f) e =
-      let some = some_op_iff V moves (fits c) (fits_named c) f in
-      let all = ops_iff V moves (fits c) (fits_named c) {R = λ o. Unit {0}} sized (λ o. true) (λ g. minutes_model.within f g) (λ o. (λ h. tt, λ h. refl)) (λ g. so_iff (minutes_model.within f g)) e in
-      let parts = both (some_op_test V moves (fits c) (fits_named c) f) (ops_test V moves (fits c) (fits_named c) (λ o. true) (λ g. minutes_model.within f g)) some all in (
-        λ h. let p = parts.0 h in ((p.0.0, can_to c p.0.0 f p.0.1), λ o g w. p.1 o g tt (can_from c o g w)),
-        λ t. parts.1 ((t.0.0, can_from c t.0.0 f t.0.1), λ o g u w. t.1 o g (can_to c o g w)),
-      )
-
-  none_there : (x : Option (List ℕ)) → (same_option same_cost x None ≡ true) ↔ (x ≡ None)
-  none_there x = option_tells same_cost costs_tell x None
-
-  abbrev pub offered_test : (ℕ → Bool) → ℕ → Option (List ℕ) → Bool
-  offered_test keep c None = not (same_option same_cost (V c) None) || (not (keep c) || cheapest_test c None)
-  offered_test keep c (Some f) = same_option same_cost (V c) None && (keep c && cheapest_test c (Some f))
-
-  pub offered_decided : AllSized minutes_model V → (keep : ℕ → Bool) (c : ℕ) (x : Option (List ℕ)) → all_found V moves (fits c) (fits_named c) ≡ true →
-      (offered_test keep c x ≡ true) ↔ Offered minutes_model moves keep V c x
-  offered_decided sized keep c None e =
-      where_iff (same_option same_cost (V c) None) (not (keep c) || cheapest_test c None) (none_there (V c))
-      (where_iff (keep c) (cheapest_test c None) (λ h. h, λ h. h) (cheapest_decided sized c None e))
-  offered_decided sized keep c (Some f) e =
-      let parts =
-      both (same_option same_cost (V c) None) (keep c && cheapest_test c (Some f)) (none_there (V c))
-      (both (keep c) (cheapest_test c (Some f)) (λ h. h, λ h. h) (cheapest_decided sized c (Some f) e)) in
-      (λ h. let p = parts.0 h in (p.0, p.1.0, p.1.1), λ t. parts.1 (t.0, (t.1, t.2)))
 
   -- ── groups ──
 
@@ -166,7 +113,7 @@ module _ (V : ℕ → Option (List ℕ)) where
   lowered_decided : AllSized minutes_model V → (ms rest : List Move) (x : Option (List ℕ)) → all_found V ms op op_named ≡ true →
       (lowered_test ms rest x ≡ true) ↔ Lowered minutes_model V ms rest x
   lowered_decided sized ms rest None e =
-      let all = ops_iff V ms op op_named sized (under_test rest) (λ a. false) (under_decided rest) (none_iff V) e in
+      let all = ops_iff V ms op op_named sized (under_test rest) (λ a. false) (under_decided rest) none_iff e in
       (λ h o g b w. all.0 h o g b (by_from V ms o g w), λ h. all.1 (λ o g b w. h o g b (by_to V ms o g w)))
   lowered_decided sized ms rest (Some f) e =
       let some = some_op_iff V ms op op_named f in
@@ -275,8 +222,8 @@ abbrev test : Claim → Bool
 test (after t m a) = same_option same_cost (costs_in t m.outcome) (Some a)
 test (worst t c o f) = worst_test (costs_in t) moves (fits c o) f
 test (greatest t ms x) = greatest_test (costs_in t) ms x
-test (cheapest t c x) = cheapest_test (costs_in t) c x
-test (offered t keep c x) = offered_test (costs_in t) (has keep) c x
+test (cheapest t c x) = cheapest_test moves (costs_in t) c x
+test (offered t keep c x) = offered_test moves (costs_in t) (has keep) c x
 test (by ms o m) = by_test ms o m
 test (same ms o n) = same_test ms o n
 test (splits ms group rest) = splits_test ms group rest
@@ -287,17 +234,12 @@ test (left ms rest) = left_test ms rest
 test (lowered t ms rest x) = lowered_test (costs_in t) ms rest x
 test (unmet t ms rest f) = unmet_test (costs_in t) ms rest f
 
-pub worst_in : (t : List (Option Time)) (c o : ℕ) (f : List ℕ) → (worst_test (costs_in t) moves (fits c o) f ≡ true) ↔ Worst minutes_model (After (costs_in t)) (Can moves c o) f
-worst_in t c o f =
-    let one = worst_decided (costs_in t) moves (fits c o) f in
-    (λ h. can_to (costs_in t) c o f (one.0 h), λ w. one.1 (can_from (costs_in t) c o f w))
-
 decided : (x : Claim) → decides x ≡ true → (test x ≡ true) ↔ Means x
 decided (after t m a) e = option_tells same_cost costs_tell (costs_in t m.outcome) (Some a)
-decided (worst t c o f) e = worst_in t c o f
+decided (worst t c o f) e = worst_at moves (costs_in t) c o f
 decided (greatest t ms x) e = greatest_decided (costs_in t) (sized_in t) ms x e
-decided (cheapest t c x) e = cheapest_decided (costs_in t) (sized_in t) c x e
-decided (offered t keep c x) e = offered_decided (costs_in t) (sized_in t) (has keep) c x e
+decided (cheapest t c x) e = cheapest_decided moves (costs_in t) (sized_in t) c x e
+decided (offered t keep c x) e = offered_decided moves (costs_in t) (sized_in t) (has keep) c x e
 decided (by ms o m) e = by_decided ms o m
 decided (same ms o n) e = same_decided ms o n
 decided (splits ms group rest) e = splits_decided ms group rest

@@ -4,9 +4,12 @@ pub mod Answers
 pub mod Combine
 pub mod Indexes
 pub mod Worsts
+pub mod Offers
 pub mod Labels
 pub mod Few
 pub mod Steps
+pub mod Prices
 pub mod Least
+pub mod Loops
 pub mod Tasks
 pub mod Verdicts

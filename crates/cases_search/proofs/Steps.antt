@@ -11,7 +11,7 @@ use Rattle.costs.specs.declared.models.Time.{Time}
 use Rattle.costs.specs.Models.{minutes_model, time_list}
 use Rattle.tables.proofs.Options.{some_inj, none_some}
 use Rattle.search.specs.Labels.{After, Worst}
-use Rattle.search.specs.Steps.{start, Started, AllOffered, Above, LowestAt, Picked, AllPicked}
+use Rattle.search.specs.Steps.{start, Started, Above, LowestAt, Picked, AllPicked}
 use Rattle.search.specs.declared.Choice.{Choice}
 use Rattle.search.specs.declared.Choice.TheVariants.{None as Nothing, There, Work}
 use Rattle.cases_plans.proofs.Rows.{alike, right, all_say}
@@ -21,9 +21,9 @@ use Rattle.cases_search.specs.Labels.{costs_in}
 use Rattle.cases_search.specs.Sluice.{moves}
 use Rattle.cases_search.specs.Steps.{starts, StartsSay, Claim, started, all_offered, above, worked, picked, all_picked, Means, rows, StepsSay}
 use Rattle.cases_search.proofs.Combine.{every_iff, at_most}
-use Rattle.cases_search.proofs.Labels.{fits_named, can_to, can_from, offered_test, offered_decided, sized_in, worst_in}
+use Rattle.cases_search.proofs.Offers.{fits_named, can_to, can_from, worst_at, sized_in, offers_found, all_offered_test, all_offered_decided}
 use Rattle.cases_search.proofs.Runs.{so_iff, same_cost, costs_tell}
-use Rattle.cases_search.proofs.Worsts.{only, worst_test, each_op_test, each_op_iff, all_found}
+use Rattle.cases_search.proofs.Worsts.{only, worst_test, each_op_test, each_op_iff}
 
 all_told : told starts ≡ true
 all_told = refl
@@ -37,10 +37,10 @@ only_iff p one None = (λ e f q. absurd (none_some q), λ h. refl)
 only_iff {P} p one (Some a) = (λ e f q. subst P (some_inj q) ((one a).0 e), λ h. (one a).1 (h a refl))
 
 -- each cost of a table passes
-abbrev entries : (List ℕ → Bool) → List (Option Time) → Bool
+abbrev pub entries : (List ℕ → Bool) → List (Option Time) → Bool
 entries p t = each (λ x. only p (shown time_list x)) t
 
-entries_iff : {P : List ℕ → Type 0} (p : List ℕ → Bool) → ((a : List ℕ) → (p a ≡ true) ↔ P a) → (t : List (Option Time)) →
+pub entries_iff : {P : List ℕ → Type 0} (p : List ℕ → Bool) → ((a : List ℕ) → (p a ≡ true) ↔ P a) → (t : List (Option Time)) →
     (entries p t ≡ true) ↔ ((c : ℕ) (f : List ℕ) → costs_in t c ≡ Some f → P f)
 entries_iff p one [] = (λ e c f q. absurd (none_some q), λ h. refl)
 entries_iff {P} p one (x ∷ t) =
@@ -62,25 +62,16 @@ started_decided goal n t =
 abbrev below_all : List (Option Time) → List ℕ → Bool
 below_all t g = entries (λ f. minutes_model.within f g) t
 
-abbrev above_test : ℕ → List (Option Time) → List (Option Time) → Bool
+abbrev pub above_test : ℕ → List (Option Time) → List (Option Time) → Bool
 above_test n t u = every (λ d. only (below_all t) (costs_in u d)) n
 
-above_decided : (n : ℕ) (t u : List (Option Time)) → (above_test n t u ≡ true) ↔ Above minutes_model n (costs_in t) (costs_in u)
+pub above_decided : (n : ℕ) (t u : List (Option Time)) → (above_test n t u ≡ true) ↔ Above minutes_model n (costs_in t) (costs_in u)
 above_decided n t u = (λ e c d f g l v w. all.0 e d l g w c f v, λ h. all.1 (λ d l g w c f v. h c d f g l v w))
   where
     all : (above_test n t u ≡ true) ↔ ((d : ℕ) → d < n → (g : List ℕ) → costs_in u d ≡ Some g → (c : ℕ) (f : List ℕ) → costs_in t c ≡ Some f → Le minutes_model f g)
     all =
         every_iff (λ d. only (below_all t) (costs_in u d)) n
         (λ d l. only_iff (below_all t) (λ g. entries_iff (λ f. minutes_model.within f g) (λ f. so_iff (minutes_model.within f g)) t) (costs_in u d))
-
-abbrev offers_found : List (Option Time) → ℕ → Bool
-offers_found t n = every (λ c. all_found (costs_in t) moves (fits c) (fits_named c)) n
-
-all_offered_decided : (keep : ℕ → Bool) (n : ℕ) (t u : List (Option Time)) → offers_found t n ≡ true →
-    (every (λ c. offered_test (costs_in t) keep c (costs_in u c)) n ≡ true) ↔ AllOffered minutes_model moves keep n (costs_in t) (costs_in u)
-all_offered_decided keep n t u e =
-    every_iff (λ c. offered_test (costs_in t) keep c (costs_in u c)) n
-    (λ c l. offered_decided (costs_in t) (sized_in t) keep c (costs_in u c) ((every_iff (λ c. all_found (costs_in t) moves (fits c) (fits_named c)) n (λ c l. (λ h. h, λ h. h))).0 e c l))
 
 module _ (t : List (Option Time)) (c : ℕ) where
   abbrev V : ℕ → Option (List ℕ)
@@ -99,12 +90,12 @@ module _ (t : List (Option Time)) (c : ℕ) where
   no_op_iff : (f : List ℕ) → (no_op f ≡ true) ↔ ((o : ℕ) → Worst minutes_model (After V) (Can moves c o) f → ⊥)
   no_op_iff f =
       let all = each_op_iff V moves (fits c) (fits_named c) f (λ o. false) (λ o. (λ e. false≢true e, λ (h : ⊥). absurd h)) in
-      (λ h o w. all.0 h o (can_from V c o f w), λ h. all.1 (λ o w. h o (can_to V c o f w)))
+      (λ h o w. all.0 h o (can_from moves V c o f w), λ h. all.1 (λ o w. h o (can_to moves V c o f w)))
 
   lowest_iff : (o : ℕ) (f : List ℕ) → (each_op_test V moves (fits c) (fits_named c) f (leb o) ≡ true) ↔ ((p : ℕ) → Worst minutes_model (After V) (Can moves c p) f → o ≤ p)
   lowest_iff o f =
       let all = each_op_iff V moves (fits c) (fits_named c) f (leb o) (λ p. at_most o p) in
-      (λ h p w. all.0 h p (can_from V c p f w), λ h. all.1 (λ p w. h p (can_to V c p f w)))
+      (λ h p w. all.0 h p (can_from moves V c p f w), λ h. all.1 (λ p w. h p (can_to moves V c p f w)))
 
   worked_decided : (w : Option (ℕ × Time)) → (worked_test w ≡ true) ↔ LowestAt minutes_model time_list moves V c w
   worked_decided None = only_iff no_op no_op_iff (V c)
@@ -112,7 +103,7 @@ module _ (t : List (Option Time)) (c : ℕ) where
       let parts =
       both (same_option same_cost (V c) (Some (time_list w.1))) (is_op w.0 (time_list w.1)) (option_tells same_cost costs_tell (V c) (Some (time_list w.1)))
       (both (worst_test V moves (fits c w.0) (time_list w.1)) (each_op_test V moves (fits c) (fits_named c) (time_list w.1) (leb w.0))
-      (worst_in t c w.0 (time_list w.1)) (lowest_iff w.0 (time_list w.1))) in
+      (worst_at moves V c w.0 (time_list w.1)) (lowest_iff w.0 (time_list w.1))) in
       (λ e. let h = parts.0 e in (h.0, h.1.0, h.1.1), λ h. parts.1 (h.0, (h.1, h.2)))
 
   abbrev picked_test : (ℕ → Bool) → Choice Time → Bool
@@ -137,12 +128,12 @@ all_picked_decided t goal n r =
 
 -- what the test decides: offers where it has found what the moves come to
 abbrev decides : Claim → Bool
-decides (all_offered keep n t u) = offers_found t n
+decides (all_offered keep n t u) = offers_found moves (costs_in t) n
 decides x = true
 
 abbrev test : Claim → Bool
 test (started goal n t) = started_test (has goal) n t
-test (all_offered keep n t u) = every (λ c. offered_test (costs_in t) (has keep) c (costs_in u c)) n
+test (all_offered keep n t u) = all_offered_test moves (costs_in t) (has keep) n (costs_in u)
 test (above n t u) = above_test n t u
 test (worked t c w) = worked_test t c w
 test (picked t goal c x) = picked_test t c (has goal) x
@@ -150,7 +141,7 @@ test (all_picked t goal n r) = all_picked_test t (has goal) n r
 
 decided : (x : Claim) → decides x ≡ true → (test x ≡ true) ↔ Means x
 decided (started goal n t) e = started_decided (has goal) n t
-decided (all_offered keep n t u) e = all_offered_decided (has keep) n t u e
+decided (all_offered keep n t u) e = all_offered_decided moves (costs_in t) (sized_in t) (has keep) n (costs_in u) e
 decided (above n t u) e = above_decided n t u
 decided (worked t c w) e = worked_decided t c w
 decided (picked t goal c x) e = picked_decided t c (has goal) x

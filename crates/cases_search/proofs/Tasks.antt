@@ -39,21 +39,22 @@ agree_decided n f g = every_iff (λ c. alike (f c) (g c)) n (λ c l. alike_iff (
 four : {P Q R S : Type 0} (a b c d : Bool) → (a ≡ true) ↔ P → (b ≡ true) ↔ Q → (c ≡ true) ↔ R → (d ≡ true) ↔ S → ((a && (b && (c && d))) ≡ true) ↔ (P × (Q × (R × S)))
 four a b c d p q r s = both a (b && (c && d)) p (both b (c && d) q (both c d r s))
 
-abbrev is_task_test : RequestModel → Task → Bool
-is_task_test q t =
-    eqb t.from q.from && (eqb t.to q.to && (same_list alike (vec_items t.keep) (truths 2 marks q.keep) && same_list alike (vec_items t.reach) (truths 2 marks q.reach)))
+module _ (n : ℕ) (conditions : List ℕ) (q : RequestModel) (t : Task) where
+  abbrev pub is_task_test : Bool
+  is_task_test =
+      eqb t.from q.from && (eqb t.to q.to && (same_list alike (vec_items t.keep) (truths n conditions q.keep) && same_list alike (vec_items t.reach) (truths n conditions q.reach)))
 
-is_task_decided : (q : RequestModel) (t : Task) → (is_task_test q t ≡ true) ↔ IsTask 2 marks q t
-is_task_decided q t = (
-  λ e. let h = parts.0 e in record { from = h.0; to = h.1.0; keep = h.1.1.0; reach = h.1.1.1 },
-  λ i. parts.1 (i.from, (i.to, (i.keep, i.reach))),
-)
-  where
-    parts : (is_task_test q t ≡ true) ↔ ((t.from ≡ q.from) × ((t.to ≡ q.to) × ((vec_items t.keep ≡ truths 2 marks q.keep) × (vec_items t.reach ≡ truths 2 marks q.reach))))
-    parts =
-        four (eqb t.from q.from) (eqb t.to q.to) (same_list alike (vec_items t.keep) (truths 2 marks q.keep)) (same_list alike (vec_items t.reach) (truths 2 marks q.reach))
-        (equal t.from q.from) (equal t.to q.to) (list_tells alike alike_iff (vec_items t.keep) (truths 2 marks q.keep))
-        (list_tells alike alike_iff (vec_items t.reach) (truths 2 marks q.reach))
+  pub is_task_decided : (is_task_test ≡ true) ↔ IsTask n conditions q t
+  is_task_decided = (
+    λ e. let h = parts.0 e in record { from = h.0; to = h.1.0; keep = h.1.1.0; reach = h.1.1.1 },
+    λ i. parts.1 (i.from, (i.to, (i.keep, i.reach))),
+  )
+    where
+      parts : (is_task_test ≡ true) ↔ ((t.from ≡ q.from) × ((t.to ≡ q.to) × ((vec_items t.keep ≡ truths n conditions q.keep) × (vec_items t.reach ≡ truths n conditions q.reach))))
+      parts =
+          four (eqb t.from q.from) (eqb t.to q.to) (same_list alike (vec_items t.keep) (truths n conditions q.keep)) (same_list alike (vec_items t.reach) (truths n conditions q.reach))
+          (equal t.from q.from) (equal t.to q.to) (list_tells alike alike_iff (vec_items t.keep) (truths n conditions q.keep))
+          (list_tells alike alike_iff (vec_items t.reach) (truths n conditions q.reach))
 
 abbrev rows_tell : ℕ → Asked → Task → Bool
 rows_tell n q t =
@@ -81,10 +82,10 @@ module _ (D : Domain) (tasks : List Task) (none : Task) where
   abbrev one_test : ℕ → Bool
   one_test i = tells_test D.conditions (task_at D i) (slice_index_or tasks i none)
 
-  abbrev told_test : Bool
+  abbrev pub told_test : Bool
   told_test = eqb (length tasks) (length D.tasks) && every one_test (length D.tasks)
 
-  told_decided : (told_test ≡ true) ↔ DomainTasks D tasks
+  pub told_decided : (told_test ≡ true) ↔ DomainTasks D tasks
   told_decided = (
     λ e.
         let h = parts.0 e in
@@ -99,6 +100,13 @@ module _ (D : Domain) (tasks : List Task) (none : Task) where
       parts =
           both (eqb (length tasks) (length D.tasks)) (every one_test (length D.tasks)) (equal (length tasks) (length D.tasks))
           (every_iff one_test (length D.tasks) (λ i l. tells_decided D.conditions (task_at D i) (slice_index_or tasks i none)))
+
+abbrev pub fresh_check : Domain → List Bool → Task → Bool
+fresh_check D alive t =
+    eqb (length (vec_items t.goal)) D.conditions
+    && (eqb (length (vec_items t.served)) D.conditions
+    && (agree_test D.conditions (has (vec_items t.goal)) (λ c. has (vec_items t.reach) c && has alive c)
+    && every (λ c. alike (has (vec_items t.served) c) (attains D.conditions D.moves (has (vec_items t.keep)) (has (vec_items t.goal)) c)) D.conditions))
 
 module _ (D : Domain) (wf : WellFormed D) (alive : List Bool) (t : Task) where
   abbrev aims : ℕ → Bool
@@ -115,13 +123,7 @@ module _ (D : Domain) (wf : WellFormed D) (alive : List Bool) (t : Task) where
         λ r. same.1 (agree_iff (has (vec_items t.served) c) (plans c) (λ s. ∥∥₁_elim (r.0 s) (search props) plan.1) (λ s. r.1 ∣ plan.0 s ∣₁)),
       )
 
-  abbrev fresh_test : Bool
-  fresh_test =
-      eqb (length (vec_items t.goal)) D.conditions
-      && (eqb (length (vec_items t.served)) D.conditions
-      && (agree_test D.conditions (has (vec_items t.goal)) aims && every (λ c. alike (has (vec_items t.served) c) (plans c)) D.conditions))
-
-  fresh_decided : (fresh_test ≡ true) ↔ Fresh D alive t
+  pub fresh_decided : (fresh_check D alive t ≡ true) ↔ Fresh D alive t
   fresh_decided =
       let parts =
       four (eqb (length (vec_items t.goal)) D.conditions) (eqb (length (vec_items t.served)) D.conditions) (agree_test D.conditions (has (vec_items t.goal)) aims)
@@ -144,23 +146,16 @@ module _ (heap : Global) where
   decides (fresh D alive t) = formed_test D
   decides x = true
 
-  abbrev fresh_check : Domain → List Bool → Task → Bool
-  fresh_check D alive t =
-      eqb (length (vec_items t.goal)) D.conditions
-      && (eqb (length (vec_items t.served)) D.conditions
-      && (agree_test D.conditions (has (vec_items t.goal)) (λ c. has (vec_items t.reach) c && has alive c)
-      && every (λ c. alike (has (vec_items t.served) c) (attains D.conditions D.moves (has (vec_items t.keep)) (has (vec_items t.goal)) c)) D.conditions))
-
   abbrev test : Claim → Bool
   test (agree n f g) = agree_test n (has f) (has g)
-  test (is_task q t) = is_task_test q (task_of heap t)
+  test (is_task q t) = is_task_test 2 marks q (task_of heap t)
   test (tells n q t) = tells_test n q (task_of heap t)
   test (told D ts) = told_test D (map (task_of heap) ts) none
   test (fresh D alive t) = fresh_check D alive (task_of heap t)
 
   decided : (x : Claim) → decides x ≡ true → (test x ≡ true) ↔ Means heap x
   decided (agree n f g) e = agree_decided n (has f) (has g)
-  decided (is_task q t) e = is_task_decided q (task_of heap t)
+  decided (is_task q t) e = is_task_decided 2 marks q (task_of heap t)
   decided (tells n q t) e = tells_decided n q (task_of heap t)
   decided (told D ts) e = told_decided D (map (task_of heap) ts) none
   decided (fresh D alive t) e = fresh_decided D ((formed_decided D).0 e) alive (task_of heap t)

@@ -4,6 +4,7 @@ pub mod Labels
 pub mod Few
 pub mod Steps
 pub mod Least
+pub mod Loops
 pub mod Indexes
 pub mod Held
 pub mod Tasks

@@ -7,6 +7,7 @@ ghost use Rattle.cases_search.specs.Few.{FewSay};
 ghost use Rattle.cases_search.specs.Indexes.{ComputedSay, IndexesSay};
 ghost use Rattle.cases_search.specs.Labels.{CountsSay, LabelsSay};
 ghost use Rattle.cases_search.specs.Least.{LeastSay};
+ghost use Rattle.cases_search.specs.Loops.{LoopsSay};
 ghost use Rattle.cases_search.specs.Steps.{StartsSay, StepsSay};
 ghost use Rattle.cases_search.specs.Tasks.{TasksComputedSay, TasksSay};
 ghost use Rattle.cases_search.specs.Verdicts.{VerdictsSay};
@@ -69,4 +70,9 @@ pub fn least_stand()
 // Tables whose costs are those of runs of few moves.
 pub fn few_stand()
     ensures { FewSay }
+{}
+
+// What the loop of the search keeps, and what it ends with.
+pub fn loops_stand()
+    ensures { LoopsSay }
 {}

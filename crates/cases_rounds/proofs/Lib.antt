@@ -1,0 +1,5 @@
+pub mod Combine
+pub mod Held
+pub mod Stages
+pub mod Rounds
+pub mod Ports

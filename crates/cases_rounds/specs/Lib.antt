@@ -1,0 +1,4 @@
+pub mod Held
+pub mod Stages
+pub mod Rounds
+pub mod Ports
