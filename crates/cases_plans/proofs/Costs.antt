@@ -1,5 +1,6 @@
 -- The rows of laws and costs.
 use Rattle.std.proofs.Common.{◌≡◌, ℕ, Bool, true, false, ◌&&◌, T, eqb, ltb, ◌↔◌, List, [], ◌∷◌, length, get_or, refl, ap, ◌∙◌, ⊎_elim, arith, le→leb, leb→le}
+use Rattle.port.specs.Limits.{Limited}
 use Rattle.port.specs.declared.Move.{Move}
 use Rattle.plans.specs.Reach.{each}
 use Rattle.costs.specs.Costs.{Laws, WeakLaws, cost, Small, Reached}
@@ -93,13 +94,24 @@ pub was_so : (b : Bool) → T b → b ≡ true
 was_so true t = refl
 was_so false t = absurd t
 
+abbrev limited_test : Move → Bool
+limited_test m = (ltb m.condition 256 && ltb m.operation 32) && (ltb m.outcome 256 && ltb m.minutes 65536)
+
+limited_decided : (m : Move) → (limited_test m ≡ true) ↔ Limited m
+limited_decided m =
+    let parts =
+    both (ltb m.condition 256 && ltb m.operation 32) (ltb m.outcome 256 && ltb m.minutes 65536)
+    (both (ltb m.condition 256) (ltb m.operation 32) (below m.condition 256) (below m.operation 32))
+    (both (ltb m.outcome 256) (ltb m.minutes 65536) (below m.outcome 256) (below m.minutes 65536)) in
+    (λ e. let h = parts.0 e in (h.0.0, h.0.1, h.1.0, h.1.1), λ l. parts.1 ((l.0, l.1), (l.2, l.3)))
+
 abbrev small_test : List Move → Bool
 small_test [] = true
-small_test (m ∷ ms) = ltb m.minutes 65536 && small_test ms
+small_test (m ∷ ms) = limited_test m && small_test ms
 
 small_decided : (ms : List Move) → (small_test ms ≡ true) ↔ Small ms
 small_decided [] = (λ e. tt, λ s. refl)
-small_decided (m ∷ ms) = both (ltb m.minutes 65536) (small_test ms) (below m.minutes 65536) (small_decided ms)
+small_decided (m ∷ ms) = both (limited_test m) (small_test ms) (limited_decided m) (small_decided ms)
 
 abbrev test : Claim → Bool
 test (sized k a) = eqb (length a) k.columns
@@ -151,9 +163,9 @@ too_long r =
 
 pub prices_say : PricesSay
 prices_say = each_says IsReached prices (
-    record { moves = lift ∷ lower ∷ []; short = omega arith; small = (omega arith, (omega arith, tt)); same = refl }
+    record { moves = lift ∷ lower ∷ []; short = omega arith; small = ((omega arith, omega arith, omega arith, omega arith), ((omega arith, omega arith, omega arith, omega arith), tt)); same = refl }
     ⨾ record { moves = []; short = omega arith; small = tt; same = refl }
-    ⨾ record { moves = move 0 0 1 65535 ∷ []; short = omega arith; small = (omega arith, tt); same = refl }
+    ⨾ record { moves = move 0 0 1 65535 ∷ []; short = omega arith; small = ((omega arith, omega arith, omega arith, omega arith), tt); same = refl }
     ⨾ few_moves
     ⨾ few_timed
     ⨾ idle

@@ -114,9 +114,13 @@ rows =
     holds (at_most minutes_model (7 ∷ 9 ∷ []) (8 ∷ 1 ∷ [])) ∷
     fails (at_most moves_model (3 ∷ []) (2 ∷ [])) ∷
     fails (at_most minutes_model (7 ∷ 2 ∷ []) (7 ∷ 1 ∷ [])) ∷
-    -- Small: the minutes of each move fit into 16 bits
+    -- Small: the numbers of each move are within the limits of every port
     holds (small []) ∷
     holds (small (lift ∷ move 0 0 1 65535 ∷ [])) ∷
+    holds (small (move 255 31 255 65535 ∷ [])) ∷
+    fails (small (move 256 31 255 65535 ∷ [])) ∷
+    fails (small (move 255 32 255 65535 ∷ [])) ∷
+    fails (small (move 255 31 256 65535 ∷ [])) ∷
     fails (small (move 0 0 1 65536 ∷ [])) ∷
     fails (small (lift ∷ move 0 0 1 70000 ∷ [])) ∷
     []

@@ -1,13 +1,11 @@
 -- Tests of parts, of places of lists, and of pairs.
-use Rattle.std.proofs.Common.{◌≡◌, ℕ, zero, suc, ◌<◌, ◌≤◌, Bool, true, false, not, ◌&&◌, ◌||◌, ◌⊎◌, ◌↔◌, List, [], ◌∷◌, length, get_or, sym, refl, subst, ⊎_elim, true≢false, arith}
+use Rattle.std.proofs.Common.{◌≡◌, ℕ, ◌<◌, ◌≤◌, Bool, true, false, not, ◌&&◌, ◌↔◌, List, length, get_or, sym, refl, subst, true≢false, arith}
 use mathlib.Core.Bool.{and-eq-true_iff, false≢true}
 use Rattle.std.proofs.Math.Logic.{∥∥₁_elim}
 use Rattle.std.proofs.Props.{props}
-use Rattle.std.proofs.lemmas.Bool.{cases_lt}
 use Rattle.std.proofs.lemmas.List.{get_or_default}
 use Rattle.plans.specs.Flags.{every}
 use Rattle.plans.specs.Simulation.{Domain, InRange}
-use Rattle.plans.proofs.Decide.{or_cases, or_left, or_right}
 use Rattle.cases_plans.proofs.Kept.{pairwise, pairwise_iff}
 use Rattle.cases_plans.proofs.Rows.{alike}
 use Rattle.cases_search.proofs.Combine.{every_iff}
@@ -33,22 +31,6 @@ some_proof b p = (λ e. ∣ p.0 e ∣₁, λ t. ∥∥₁_elim t (search props) 
 pub down_iff : (b : Bool) → (not b ≡ true) ↔ (b ≡ false)
 down_iff true = (λ e. absurd (false≢true e), λ e. absurd (true≢false e))
 down_iff false = (λ e. refl, λ e. refl)
-
--- some number below one passes
-abbrev pub somewhere : (ℕ → Bool) → ℕ → Bool
-somewhere p zero = false
-somewhere p (suc n) = somewhere p n || p n
-
-pub somewhere_iff : {P : ℕ → Type 0} (p : ℕ → Bool) (n : ℕ) → ((i : ℕ) → i < n → (p i ≡ true) ↔ P i) → (somewhere p n ≡ true) ↔ ((i : ℕ) × (i < n) × P i)
-somewhere_iff p zero one = (λ e. absurd (false≢true e), λ t. let l = t.1 in absurd (omega arith))
-somewhere_iff {P} p (suc n) one =
-    let earlier = somewhere_iff p n (λ i l. one i (omega (arith, l))) in (
-      λ e. ⊎_elim (λ x. let t = earlier.0 x in (t.0, let l = t.1 in omega arith, t.2)) (λ x. (n, omega arith, (one n (omega arith)).0 x)) (or_cases (somewhere p n) (p n) e),
-      λ t. ⊎_elim
-          (λ l. or_left (somewhere p n) (p n) (earlier.1 (t.0, l, t.2)))
-          (λ g. let m = t.1 in let same : t.0 ≡ n = omega arith in or_right (somewhere p n) (p n) ((one n (omega arith)).1 (subst P same t.2)))
-          (cases_lt t.0 n),
-    )
 
 -- something of each place of a list, whatever is read past its end
 pub places_iff : {A : Type 0} {P : ℕ → A → Type 0} (test : ℕ → A → Bool) (xs : List A) (none : A) (n : ℕ) → n ≤ length xs →

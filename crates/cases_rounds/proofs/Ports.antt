@@ -26,13 +26,12 @@ use Rattle.cases_plans.proofs.Rows.{alike, right, all_say}
 use Rattle.cases_plans.proofs.Tests.{both, equal, below, same_move, same_moves}
 use Rattle.cases_plans.proofs.Values.{alike_iff, same_list, list_tells}
 use Rattle.cases_search.specs.Held.{TaskRows, task_of}
-use Rattle.cases_search.proofs.Combine.{every_iff}
+use Rattle.cases_search.proofs.Combine.{every_iff, somewhere, somewhere_iff}
 use Rattle.cases_search.proofs.Tasks.{is_task_test, is_task_decided}
 use Rattle.cases_words.specs.Ports.{quay, yes_is}
 use Rattle.cases_words.proofs.Held.{same_limits}
 use Rattle.cases_words.proofs.Ports.{ports_hold}
 use Rattle.cases_rounds.specs.Ports.{Claim, stages, conditions, transitions, count, wide, high, moving, leads, keeps, reaches, tasks, Means, rows, PortsSay}
-use Rattle.cases_rounds.proofs.Combine.{somewhere, somewhere_iff}
 
 -- ── what a port says ──
 

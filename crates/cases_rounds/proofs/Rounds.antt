@@ -1,5 +1,5 @@
 -- The rows of rounds, by one test.
-use Rattle.std.proofs.Common.{◌≡◌, ℕ, ◌+◌, ◌*◌, ◌<◌, ◌≤◌, Bool, true, false, not, ◌&&◌, ◌||◌, eqb, leb, ◌↔◌, List, [], ◌∷◌, length, map, vec_items, get_or, sym, refl, subst, arith, eqb-true}
+use Rattle.std.proofs.Common.{◌≡◌, ℕ, ◌+◌, ◌*◌, ◌<◌, ◌≤◌, Bool, true, false, not, ◌&&◌, ◌||◌, eqb, leb, ◌↔◌, List, length, map, vec_items, get_or, sym, refl, subst, arith, eqb-true}
 use mathlib.Core.Bool.{and-eq-true_iff}
 use Rattle.std.specs.Global.{Global}
 use Rattle.std.proofs.lemmas.List.{get_or_default}

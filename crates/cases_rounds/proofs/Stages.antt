@@ -1,5 +1,5 @@
 -- The rows of stages, by one test.
-use Rattle.std.proofs.Common.{◌≡◌, ℕ, ◌<◌, ◌≤◌, Bool, true, false, cond, not, ◌&&◌, ◌||◌, eqb, ◌↔◌, List, [], ◌∷◌, length, map, replicate, vec_items, vec_len, get_or, sym, refl, subst, arith, leb-true}
+use Rattle.std.proofs.Common.{◌≡◌, ℕ, ◌<◌, ◌≤◌, Bool, true, false, cond, not, ◌&&◌, ◌||◌, eqb, ◌↔◌, List, length, map, replicate, vec_items, vec_len, get_or, sym, refl, subst, arith, leb-true}
 use mathlib.Core.Bool.{and-eq-true_iff}
 use Rattle.std.specs.Prelude.{slice_index}
 use Rattle.std.specs.Global.{Global}
@@ -14,10 +14,10 @@ use Rattle.cases_plans.proofs.Tests.{both, equal}
 use Rattle.cases_plans.proofs.Values.{alike_iff, same_list, list_tells, values_say}
 use Rattle.cases_plans.proofs.Values as values
 use Rattle.cases_search.specs.Held.{TaskRows, task_of}
-use Rattle.cases_search.proofs.Combine.{every_iff, where_iff, unless_iff}
+use Rattle.cases_search.proofs.Combine.{every_iff, where_iff, unless_iff, somewhere, somewhere_iff}
 use Rattle.cases_rounds.specs.Held.{Stage, StageRows, stage_of}
 use Rattle.cases_rounds.specs.Stages.{computed, StagesComputedSay, Claim, is_new, stages_new, even, wide, narrowed_by, settled_by, settled_all, same_left, same_texts, Means, rows, StagesSay}
-use Rattle.cases_rounds.proofs.Combine.{then_iff, change_iff, down_iff, somewhere, somewhere_iff, places_iff}
+use Rattle.cases_rounds.proofs.Combine.{then_iff, change_iff, down_iff, places_iff}
 use Rattle.cases_rounds.proofs.Held.{fits, rows_tell, bare, at_place}
 
 module _ (heap : Global) where

@@ -4,7 +4,6 @@ use Rattle.std.specs.Global.{Global}
 use Rattle.plans.specs.Flags.{has, rank_at}
 use Rattle.plans.specs.Simulation.{Domain}
 use Rattle.rounds.specs.Rounds.{FreshFrom, RoundReady, Turned, Judged, Going}
-use Rattle.rounds.specs.Stages.{left_in, rank_in}
 use Rattle.cases_plans.specs.Rows.{Row, holds, fails, AllSay}
 use Rattle.cases_plans.specs.Basin.{basin}
 use Rattle.cases_search.specs.Held.{TaskRows, task_of}

@@ -1,10 +1,11 @@
 -- Tests of all numbers below one, and of all items of a list.
-use Rattle.std.proofs.Common.{◌≡◌, ℕ, ◌<◌, ◌≤◌, Bool, true, false, not, ◌||◌, leb, ◌↔◌, List, refl, true≢false, leb-true, le-leb}
+use Rattle.std.proofs.Common.{◌≡◌, ℕ, zero, suc, ◌<◌, ◌≤◌, Bool, true, false, not, ◌||◌, leb, ◌↔◌, List, refl, subst, ⊎_elim, true≢false, arith, leb-true, le-leb}
 use mathlib.Core.Bool.{false≢true}
+use Rattle.std.proofs.lemmas.Bool.{cases_lt}
 use Rattle.port.specs.Limits.{In}
 use Rattle.plans.specs.Flags.{every}
 use Rattle.plans.specs.Reach.{each}
-use Rattle.plans.proofs.Decide.{each_in, in_each, implies}
+use Rattle.plans.proofs.Decide.{each_in, in_each, implies, or_cases, or_left, or_right}
 use Rattle.plans.proofs.Flags.{every_at, at_every}
 
 pub every_iff : {P : ℕ → Type 0} (p : ℕ → Bool) (n : ℕ) → ((i : ℕ) → i < n → (p i ≡ true) ↔ P i) → (every p n ≡ true) ↔ ((i : ℕ) → i < n → P i)
@@ -28,3 +29,19 @@ not_iff false p = (λ e x. false≢true (p.1 x), λ h. refl)
 pub unless_iff : {P : Type 0} (a b : Bool) → (b ≡ true) ↔ P → ((a || b) ≡ true) ↔ (a ≡ false → P)
 unless_iff true b p = (λ e f. absurd (true≢false f), λ h. refl)
 unless_iff false b p = (λ e f. p.0 e, λ h. p.1 (h refl))
+
+-- some number below one passes
+abbrev pub somewhere : (ℕ → Bool) → ℕ → Bool
+somewhere p zero = false
+somewhere p (suc n) = somewhere p n || p n
+
+pub somewhere_iff : {P : ℕ → Type 0} (p : ℕ → Bool) (n : ℕ) → ((i : ℕ) → i < n → (p i ≡ true) ↔ P i) → (somewhere p n ≡ true) ↔ ((i : ℕ) × (i < n) × P i)
+somewhere_iff p zero one = (λ e. absurd (false≢true e), λ t. let l = t.1 in absurd (omega arith))
+somewhere_iff {P} p (suc n) one =
+    let earlier = somewhere_iff p n (λ i l. one i (omega (arith, l))) in (
+      λ e. ⊎_elim (λ x. let t = earlier.0 x in (t.0, let l = t.1 in omega arith, t.2)) (λ x. (n, omega arith, (one n (omega arith)).0 x)) (or_cases (somewhere p n) (p n) e),
+      λ t. ⊎_elim
+          (λ l. or_left (somewhere p n) (p n) (earlier.1 (t.0, l, t.2)))
+          (λ g. let m = t.1 in let same : t.0 ≡ n = omega arith in or_right (somewhere p n) (p n) ((one n (omega arith)).1 (subst P same t.2)))
+          (cases_lt t.0 n),
+    )

@@ -14,7 +14,7 @@ use Rattle.cases_plans.specs.Basin.{move}
 use Rattle.cases_plans.proofs.Rows.{right, all_say}
 use Rattle.cases_plans.proofs.Tests.{both}
 use Rattle.cases_plans.proofs.Values.{same_option}
-use Rattle.cases_search.specs.Few.{Claim, few, few_below, few_after, early, spare, Means, rows, FewSay}
+use Rattle.cases_search.specs.Few.{Claim, few, few_below, few_after, joinable, early, spare, Means, rows, FewSay}
 use Rattle.cases_search.specs.Labels.{costs_in}
 use Rattle.cases_search.specs.Sluice.{two}
 use Rattle.cases_search.proofs.Combine.{every_iff, each_iff, at_most, where_iff, unless_iff}
@@ -135,6 +135,7 @@ abbrev test : Claim → Bool
 test (few steps t) = few_test steps t
 test (few_below steps t f) = below_test steps t f
 test (few_after t ms) = after_test t ms
+test (joinable minutes moves) = quick 254 (record { minutes = minutes; moves = moves })
 test (early steps t) = early_test steps t
 test (spare n steps t) = spare_test n steps t
 
@@ -142,6 +143,7 @@ decided : (x : Claim) → (test x ≡ true) ↔ Means x
 decided (few steps t) = few_decided steps t
 decided (few_below steps t f) = below_decided steps t f
 decided (few_after t ms) = after_decided t ms
+decided (joinable minutes moves) = quick_iff 254 (record { minutes = minutes; moves = moves })
 decided (early steps t) = early_decided steps t
 decided (spare n steps t) = spare_decided n steps t
 

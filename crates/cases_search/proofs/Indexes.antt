@@ -1,10 +1,15 @@
 -- The rows of the index and the tables, by one test.
-use Rattle.std.proofs.Common.{◌≡◌, ℕ, zero, suc, ◌<◌, ◌≤◌, Bool, true, not, ◌&&◌, ◌||◌, eqb, ltb, leb, ◌↔◌, List, [], ◌∷◌, length, map, slice_index_or, Bor, Some, None, Option, sym, refl, ◌∙◌, subst, arith, leb-true}
+use Rattle.std.proofs.Common.{◌≡◌, ℕ, zero, suc, ◌<◌, ◌≤◌, Bool, true, false, not, ◌&&◌, ◌||◌, eqb, ltb, leb, ◌↔◌, List, [], ◌∷◌, length, map, slice_index_or, Bor, Some, None, Option, sym, refl, ap, ◌∙◌, subst, arith, leb-true}
+use mathlib.Core.Bool.{false≢true}
+use Rattle.std.proofs.Math.Decide.{dec_lt}
 use Rattle.port.specs.Limits.{In, at}
 use Rattle.port.specs.declared.Move.{Move}
 use Rattle.plans.specs.Flags.{every}
 use Rattle.plans.specs.Reach.{each}
-use Rattle.index.specs.Indexes.{Timed, Start, flagged, Flags, Ordered, From, Apart, Rows, row}
+use Rattle.plans.proofs.Decide.{implies}
+use Rattle.plans.proofs.Flags.{every_at, at_every}
+use Rattle.plans.proofs.Index.{is_false}
+use Rattle.index.specs.Indexes.{Timed, Start, flagged, Flags, Bare, Ordered, From, Apart, Rows, row}
 use Rattle.tables.specs.Tables.{looked, AllBelow, LeastOf}
 use Rattle.tables.specs.declared.Label.{Label}
 use Rattle.tables.proofs.Options.{some_inj, none_some}
@@ -16,8 +21,8 @@ use Rattle.cases_plans.proofs.Rows.{right, all_say}
 use Rattle.cases_plans.proofs.Tests.{both, equal, below as less, listed, listed_in, same_move, same_moves}
 use Rattle.cases_plans.proofs.Values.{told, values_say, same_option, option_tells, same_list, list_tells}
 use Rattle.cases_search.specs.Sluice.{moves, one}
-use Rattle.cases_search.specs.Indexes.{known, computed, ComputedSay, Claim, timed, start, flags, ordered, from, apart, rows_for, lent, below, least, Means, rows, IndexesSay}
-use Rattle.cases_search.proofs.Combine.{every_iff, each_iff, at_most, where_iff, not_iff}
+use Rattle.cases_search.specs.Indexes.{known, computed, ComputedSay, Claim, timed, start, flags, bare, ordered, from, apart, rows_for, lent, below, least, Means, rows, IndexesSay}
+use Rattle.cases_search.proofs.Combine.{every_iff, each_iff, at_most, where_iff, not_iff, somewhere, somewhere_iff}
 use Rattle.cases_search.proofs.Runs.{was_so, same_cost, costs_tell}
 
 all_told : told computed ≡ true
@@ -67,6 +72,54 @@ flags_test ms i into = every (λ j. flagged into (at ms j).condition (at ms j).o
 
 flags_decided : (ms : List Move) (i : ℕ) (into : List (List Bool)) → (flags_test ms i into ≡ true) ↔ Flags ms i into
 flags_decided ms i into = every_iff (λ j. flagged into (at ms j).condition (at ms j).outcome) i (λ j l. (λ e. e, λ e. e))
+
+-- past its end a list has nothing
+past : {A : Type 0} (xs : List A) (i : ℕ) (d : A) → length xs ≤ i → slice_index_or xs i d ≡ d
+past [] i d g = refl
+past (x ∷ xs) zero d g = absurd (omega (arith, g))
+past (x ∷ xs) (suc i) d g = past xs i d (omega (arith, g))
+
+module _ (ms : List Move) (i : ℕ) (into : List (List Bool)) where
+  abbrev across : ℕ → List Bool
+  across d = slice_index_or into d []
+
+  abbrev goes : ℕ → ℕ → ℕ → Bool
+  goes c d j = eqb (at ms j).condition c && eqb (at ms j).outcome d
+
+  abbrev bare_one : ℕ → ℕ → Bool
+  bare_one d c = not (flagged into c d) || somewhere (goes c d) i
+
+  abbrev bare_test : Bool
+  bare_test = every (λ d. every (bare_one d) (length (across d))) (length into)
+
+  goes_iff : (c d : ℕ) → (somewhere (goes c d) i ≡ true) ↔ ((j : ℕ) × (j < i) × (((at ms j).condition ≡ c) × ((at ms j).outcome ≡ d)))
+  goes_iff c d =
+      somewhere_iff (goes c d) i (λ j l. both (eqb (at ms j).condition c) (eqb (at ms j).outcome d) (equal (at ms j).condition c) (equal (at ms j).outcome d))
+
+  -- a flag that is up stands in the rows
+  stands_in : (c d : ℕ) → flagged into c d ≡ true → (d < length into) × (c < length (across d))
+  stands_in c d f =
+      elim (dec_lt d (length into)) [
+        | yes l ↦ elim (dec_lt c (length (across d))) [
+          | yes m ↦ (l, m)
+          | no g ↦ absurd (false≢true (sym (past (across d) c false (omega arith)) ∙ f))
+        ]
+        | no g ↦ absurd (false≢true (sym (ap (λ (xs : List Bool). slice_index_or xs c false) (past into d [] (omega arith))) ∙ f))
+      ]
+
+  bare_decided : (bare_test ≡ true) ↔ Bare ms i into
+  bare_decided = (
+    λ e c d none. is_false (flagged into c d) (λ f.
+        let h = stands_in c d f in
+        let t = (goes_iff c d).0 ((implies (flagged into c d) (somewhere (goes c d) i)).0 (every_at (bare_one d) (length (across d)) (every_at (λ d. every (bare_one d) (length (across d))) (length into) e d h.0) c h.1) f) in
+        none t.0 t.1 t.2.0 t.2.1),
+    λ h. at_every (λ d. every (bare_one d) (length (across d))) (length into)
+        (λ d l. at_every (bare_one d) (length (across d)) (λ c m. (implies (flagged into c d) (somewhere (goes c d) i)).1 (λ f. so c d h f (somewhere (goes c d) i) refl))),
+  )
+    where
+      so : (c d : ℕ) → Bare ms i into → flagged into c d ≡ true → (b : Bool) → somewhere (goes c d) i ≡ b → somewhere (goes c d) i ≡ true
+      so c d h f true e = e
+      so c d h f false e = absurd (false≢true (sym (h c d (λ j l p q. false≢true (sym e ∙ (goes_iff c d).1 (j, l, (p, q))))) ∙ f))
 
 abbrev pub ordered_test : List Move → Bool
 ordered_test ms = every (λ j. every (λ i. leb (at ms i).operation (at ms j).operation) (suc j)) (length ms)
@@ -181,6 +234,7 @@ abbrev test : Claim → Bool
 test (timed ms) = timed_test ms
 test (start ms c place) = start_test ms c place
 test (flags ms i into) = flags_test ms i into
+test (bare ms i into) = bare_test ms i into
 test (ordered ms) = ordered_test ms
 test (from c ms) = from_test c ms
 test (apart c d) = apart_test c d
@@ -192,6 +246,7 @@ decided : (x : Claim) → decides x ≡ true → (test x ≡ true) ↔ Means x
 decided (timed ms) e = timed_decided ms
 decided (start ms c place) e = start_decided ms c place
 decided (flags ms i into) e = flags_decided ms i into
+decided (bare ms i into) e = bare_decided ms i into
 decided (ordered ms) e = ordered_decided ms
 decided (from c ms) e = from_decided c ms
 decided (apart c d) e = apart_decided c d

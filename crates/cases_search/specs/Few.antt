@@ -1,6 +1,7 @@
 -- Examples of tables whose costs are those of runs of few moves.
 use Rattle.std.specs.Prelude.{ℕ, List, [], ◌∷◌, None, Option}
 use Rattle.port.specs.declared.Move.{Move}
+use Rattle.costs.specs.Costs.{Joinable}
 use Rattle.costs.specs.declared.models.Time.{Time}
 use Rattle.costs.specs.Models.{minutes_model, time_list}
 use Rattle.search.specs.Labels.{Few, FewBelow, FewAfter}
@@ -15,6 +16,8 @@ pub data Claim : Type 0 where
   few : ℕ → List (Option Time) → Claim
   few_below : ℕ → List (Option Time) → List ℕ → Claim
   few_after : List (Option Time) → List Move → Claim
+  -- a move may be joined onto a cost
+  joinable : (minutes moves : ℕ) → Claim
   -- each that is below another of the table; and all, while one of n conditions has no cost
   early : ℕ → List (Option Time) → Claim
   spare : (n steps : ℕ) → List (Option Time) → Claim
@@ -23,6 +26,7 @@ abbrev pub Means : Claim → Type 0
 Means (few steps t) = Few minutes_model time_list steps t
 Means (few_below steps t f) = FewBelow minutes_model time_list steps t f
 Means (few_after t ms) = FewAfter minutes_model time_list t ms
+Means (joinable minutes moves) = Joinable minutes_model (two minutes moves)
 Means (early steps t) = Early minutes_model time_list steps t
 Means (spare n steps t) = Spare minutes_model time_list n steps t
 
@@ -44,6 +48,13 @@ rows =
     fails (few_below 0 second (two 2 2)) ∷
     fails (few_below 0 second (two 3 0)) ∷
     fails (few_below 254 (time 254 254 ∷ time 255 255 ∷ []) (two 255 256)) ∷
+    -- Joinable: a cost of a run of at most 254 moves
+    holds (joinable 0 0) ∷
+    holds (joinable 254 254) ∷
+    holds (joinable 16645890 254) ∷
+    fails (joinable 255 255) ∷
+    fails (joinable 16645891 254) ∷
+    fails (joinable 1 0) ∷
     -- FewAfter: onto at most 254 moves one more may be joined; where an outcome has no cost nothing is asked
     holds (few_after (None ∷ time 254 254 ∷ time 0 0 ∷ []) (fill ∷ lift ∷ [])) ∷
     holds (few_after (time 255 255 ∷ time 254 254 ∷ []) (fill ∷ [])) ∷

@@ -2,7 +2,7 @@
 use Rattle.std.specs.Prelude.{ℕ, Bool, true, false, List, [], ◌∷◌, Some, None, Option, map}
 use Rattle.std.specs.Borrow.{Bor}
 use Rattle.port.specs.declared.Move.{Move}
-use Rattle.index.specs.Indexes.{Timed, Start, row, flagged, Flags, Ordered, From, Apart, Rows}
+use Rattle.index.specs.Indexes.{Timed, Start, row, flagged, Flags, Bare, Ordered, From, Apart, Rows}
 use Rattle.tables.specs.Tables.{looked, AllBelow, LeastOf}
 use Rattle.tables.specs.declared.Label.{Label}
 use Rattle.costs.specs.Models.{moves_model}
@@ -60,6 +60,8 @@ pub data Claim : Type 0 where
   start : List Move → (c place : ℕ) → Claim
   -- the first i moves have their flags
   flags : List Move → ℕ → List (List Bool) → Claim
+  -- and there is no other flag
+  bare : List Move → ℕ → List (List Bool) → Claim
   ordered : List Move → Claim
   -- the moves from a condition; no move leads from one condition to another
   from : ℕ → List Move → Claim
@@ -79,6 +81,7 @@ abbrev pub Means : Claim → Type 0
 Means (timed ms) = Timed ms
 Means (start ms c place) = Start ms c place
 Means (flags ms i rows) = Flags ms i rows
+Means (bare ms i rows) = Bare ms i rows
 Means (ordered ms) = Ordered ms
 Means (from c ms) = From moves c ms
 Means (apart c d) = Apart moves c d
@@ -115,6 +118,13 @@ rows =
     holds (flags moves 0 []) ∷
     fails (flags (fill ∷ draw ∷ []) 2 into) ∷
     fails (flags (jam ∷ []) 1 into) ∷
+    -- Bare: no flag but those of the first moves
+    holds (bare moves 8 into) ∷
+    holds (bare (fill ∷ top ∷ []) 1 (four false false false false ∷ four true false false false ∷ [])) ∷
+    holds (bare [] 0 []) ∷
+    fails (bare (fill ∷ top ∷ []) 2 into) ∷
+    fails (bare (fill ∷ top ∷ []) 1 (four false false false false ∷ four true false false false ∷ four false true false false ∷ [])) ∷
+    fails (bare moves 0 into) ∷
     -- Ordered: by operation, and equal ones may follow one another
     holds (ordered (fill ∷ lift ∷ hoist ∷ jam ∷ heave ∷ [])) ∷
     holds (ordered []) ∷

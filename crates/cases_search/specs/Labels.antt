@@ -3,6 +3,7 @@ use Rattle.std.specs.Prelude.{ℕ, Bool, true, false, List, [], ◌∷◌, Some,
 use Rattle.port.specs.declared.Move.{Move}
 use Rattle.plans.specs.Flags.{has}
 use Rattle.plans.specs.Plans.{Can}
+use Rattle.costs.specs.Costs.{most_joined}
 use Rattle.costs.specs.declared.models.Time.{Time}
 use Rattle.costs.specs.Models.{minutes_model, time_list}
 use Rattle.tables.specs.Tables.{looked}
@@ -188,6 +189,9 @@ counts =
     holds (number (done second) 2) ∷
     fails (number (done second) 4) ∷
     fails (number (done first) 0) ∷
+    -- most_joined: a constant
+    holds (number most_joined 255) ∷
+    fails (number most_joined 256) ∷
     []
 
 abbrev pub CountsSay : Type 0
