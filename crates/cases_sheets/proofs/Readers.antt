@@ -1,15 +1,15 @@
 -- The rows of readers.
-use Rattle.std.proofs.Common.{◌≡◌, ℕ, List, Ok, Err, Result, refl}
+use Rattle.std.proofs.Common.{◌≡◌, ℕ, List, length, Ok, Err, Result, sym, refl, ap, subst, inl, inr, arith}
 use Rattle.faults.specs.declared.layers.PortFault.{PortFault}
 use Rattle.faults.specs.declared.layers.RecordFault.{RecordFault}
 use Rattle.port.specs.Limits.{In}
 use Rattle.reading.specs.Reading.{Step, got, fault, and_then, provided, byte, number, count, text_length}
 use Rattle.reader.specs.declared.reader.Reader.{Reader}
-use Rattle.reader.specs.Reads.{step_at, Reads, counted}
+use Rattle.reader.specs.Reads.{step_at, Reads, Stays, counted}
 use Rattle.cases_words.specs.Rows.{Said}
 use Rattle.cases_words.proofs.Rows.{all_shown}
 use Rattle.cases_words.proofs.Fields.{step_code, number_code}
-use Rattle.cases_sheets.specs.Readers.{steps, StepsShown, stands_for_itself, ItselfShown, ReadsRow, reads, lifted_reads, ReadsHold, Counts}
+use Rattle.cases_sheets.specs.Readers.{steps, StepsShown, stands_for_itself, ItselfShown, ReadsRow, reads, lifted_reads, StaysRow, stays, ReadsHold, Counts}
 use Rattle.cases_sheets.proofs.Rows.{all_same, said_as}
 
 pub steps_shown : StepsShown
@@ -53,8 +53,28 @@ lifted_same : (r : ReadsRow RecordFault) → In r lifted_reads → Said r.holds 
 unfolding and_then provided byte number counted
 lifted_same = all_same (step_code number_code) made telling (λ (r : ReadsRow RecordFault). r.holds) lifted_reads refl refl
 
+-- ── a reader that stays ──
+
+abbrev Right : StaysRow → Type 0
+Right r = Said r.holds (Stays r.before r.after r.answer)
+
+moved : (a b : Reader) → (a.place ≡ b.place → ⊥) → a ≡ b → ⊥
+moved a b differ e = differ (ap (λ (r : Reader). r.place) e)
+
+shorter : (a b : Reader) → (length a.rest.now ≡ length b.rest.now → ⊥) → a ≡ b → ⊥
+shorter a b differ e = differ (ap (λ (r : Reader). length r.rest.now) e)
+
+stays_say : (r : StaysRow) → In r stays → Right r
+stays_say r (inl e) = subst Right (sym e) refl
+stays_say r (inr (inl e)) = subst Right (sym e) refl
+stays_say r (inr (inr (inl e))) = subst Right (sym e) tt
+stays_say r (inr (inr (inr (inl e)))) = subst Right (sym e) (moved _ _ (λ q. omega arith))
+stays_say r (inr (inr (inr (inr (inl e))))) = subst Right (sym e) (shorter _ _ (λ q. omega arith))
+stays_say r (inr (inr (inr (inr (inr (inl e)))))) = subst Right (sym e) (moved _ _ (λ q. omega arith))
+stays_say r (inr (inr (inr (inr (inr (inr i)))))) = absurd i
+
 pub reads_hold : ReadsHold
-reads_hold = record { plain = λ r i. reads_say r (plain_same r i); lifted = λ r i. reads_say r (lifted_same r i) }
+reads_hold = record { plain = λ r i. reads_say r (plain_same r i); lifted = λ r i. reads_say r (lifted_same r i); stays = stays_say }
 
 pub counts_are : Counts
 unfolding counted count text_length

@@ -10,7 +10,7 @@ use Rattle.faults.specs.declared.layers.PortFault.TheVariants.{Record, Count, Mi
 use Rattle.port.specs.Limits.{In}
 use Rattle.reading.specs.Reading.{Step, got, fault, byte, number, count, text_length}
 use Rattle.reader.specs.declared.reader.Reader.{Reader}
-use Rattle.reader.specs.Reads.{step_at, Reads, itself, counted}
+use Rattle.reader.specs.Reads.{step_at, Reads, Stays, itself, counted}
 use Rattle.cases_words.specs.Rows.{Said, Row, gives, Shown}
 use Rattle.cases_words.specs.Fields.{ends, absent_at}
 
@@ -97,7 +97,7 @@ reads =
     -- a value stands for another
     plain true byte (λ v. v + 5) begun next (Ok 2) ∷
     plain false byte (λ v. v + 5) begun next (Ok 7) ∷
-    -- a fault, and then nothing is told of the reader after it
+    -- a fault, and then nothing is told here of the reader after it
     plain true byte itself done done (Err (ends 12)) ∷
     plain true byte itself done begun (Err (ends 12)) ∷
     plain true (number true) itself bad next (Err (absent_at 10)) ∷
@@ -124,9 +124,34 @@ lifted_reads =
 abbrev ReadsSay : {E : Type 0} → List (ReadsRow E) → Type 0
 ReadsSay {E} rows = (r : ReadsRow E) → In r rows → Said r.holds (Reads r.read r.value r.lift r.before r.after r.answer)
 
+-- a reader before and after, and the code's answer
+pub record StaysRow : Type 0 where
+  pub before : Reader
+  pub after : Reader
+  pub answer : Result ℕ PortFault
+  pub holds : Bool
+
+abbrev kept : Bool → Reader → Reader → Result ℕ PortFault → StaysRow
+kept holds before after answer = record { before = before; after = after; answer = answer; holds = holds }
+
+abbrev pub stays : List StaysRow
+stays =
+    -- after a fault the reader is where it was; of a value nothing is told
+    kept true done done (Err (ends 12)) ∷
+    kept true bad bad (Err (absent_at 10)) ∷
+    kept true begun astray (Ok 7) ∷
+    kept false bad next (Err (absent_at 10)) ∷
+    kept false begun astray (Err (ends 10)) ∷
+    kept false done begun (Err (ends 12)) ∷
+    []
+
+abbrev StaysSay : Type 0
+StaysSay = (r : StaysRow) → In r stays → Said r.holds (Stays r.before r.after r.answer)
+
 pub record ReadsHold : Type 0 where
   pub plain : ReadsSay reads
   pub lifted : ReadsSay lifted_reads
+  pub stays : StaysSay
 
 -- ── and of all bytes ──
 

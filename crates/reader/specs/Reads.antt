@@ -1,5 +1,5 @@
 -- How a reader goes along: as a step of the defined reading says.
-use Rattle.std.specs.Prelude.{◌≡◌, ℕ, List, Result, MatchResult, nat_le, nat_lt}
+use Rattle.std.specs.Prelude.{◌≡◌, ℕ, List, Result, IfErr, MatchResult, nat_le, nat_lt}
 use Rattle.formula.specs.Grammar.{both}
 use Rattle.faults.specs.declared.layers.PortFault.{PortFault}
 use Rattle.reader.specs.declared.reader.Reader.{Reader}
@@ -14,6 +14,10 @@ step_at read at = read at.place at.rest.now
 abbrev pub Reads : {V W E : Type 0} → (ℕ → List ℕ → Step V) → (W → V) → (E → PortFault) → Reader → Reader → Result W E → Type 0
 Reads read value lift before after r =
     MatchResult r (λ v. step_at read before ≡ got (value v) after.place after.rest.now) (λ e. step_at read before ≡ fault (lift e))
+
+-- a refusal leaves the reader where it was
+abbrev pub Stays : {W E : Type 0} → Reader → Reader → Result W E → Type 0
+Stays before after r = IfErr r (λ _. after ≡ before)
 
 -- a value, and a fault, that stand for themselves
 abbrev pub itself : {V : Type 0} → V → V

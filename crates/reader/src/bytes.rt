@@ -4,7 +4,7 @@ ghost use Rattle.formula.specs.Grammar.{both};
 ghost use Rattle.faults.specs.declared.layers.PortFault.TheVariants.{Record};
 ghost use Rattle.faults.specs.declared.layers.RecordFault.TheVariants.{Byte};
 ghost use Rattle.reading.specs.Reading.{byte, bytes};
-ghost use Rattle.reader.specs.Reads.{Reads, counted, itself};
+ghost use Rattle.reader.specs.Reads.{Reads, Stays, counted, itself};
 
 use crate::reader::Reader;
 use faults::{ByteFault, PortFault};
@@ -22,7 +22,8 @@ impl<'a> Reader<'a> {
 
     // The byte that stands next.
     pub fn next_byte(&mut self) -> Result<u8, ByteFault>
-        ensures { Reads byte itself (λ e. Record (Byte e)) self.old self.new result }
+        ensures read { Reads byte itself (λ e. Record (Byte e)) self.old self.new result }
+        ensures stays { Stays self.old self.new result }
     {
         match self.rest {
             [] => Err(ByteFault::Ends(self.place)),

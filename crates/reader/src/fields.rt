@@ -2,7 +2,7 @@
 ghost use Rattle.std.specs.Prelude.{◌≡◌, ◌+◌, cond, IfOk, None, Some};
 ghost use Rattle.faults.specs.declared.layers.PortFault.TheVariants.{Record};
 ghost use Rattle.reading.specs.Reading.{number, field, minutes, text, whole_text};
-ghost use Rattle.reader.specs.Reads.{Reads, itself};
+ghost use Rattle.reader.specs.Reads.{Reads, Stays, itself};
 
 use crate::reader::Reader;
 use crate::text::{SheetText, TextAt};
@@ -31,8 +31,8 @@ impl<'a> Reader<'a> {
         Ok(value)
     }
 
-    // A number below a limit. The map byte, at `map_place`, stands for a number that is absent.
-    pub fn next_field(
+    // A number below a limit, but a refusal may leave the reader further on.
+    fn take_field(
         &mut self,
         present: bool,
         map_place: usize,
@@ -48,8 +48,8 @@ impl<'a> Reader<'a> {
         Ok(value)
     }
 
-    // A move's minutes: two bytes, the high one first.
-    pub fn next_minutes(&mut self, present: bool) -> Result<u16, RecordFault>
+    // A move's minutes, but a refusal may leave the reader further on.
+    fn take_minutes(&mut self, present: bool) -> Result<u16, RecordFault>
         ensures { Reads (minutes present) itself Record self.old self.new result }
     {
         if !present {
@@ -80,8 +80,8 @@ impl<'a> Reader<'a> {
         Ok(TextAt { bytes, place })
     }
 
-    // A text that is a formula over the marks, and where its bytes begin; an absent one is `1`, and stands nowhere.
-    pub fn next_text(&mut self, present: bool, marks: u8) -> Result<SheetText<'a>, PortFault>
+    // A text that is a formula over the marks, but a refusal may leave the reader further on.
+    fn take_text(&mut self, present: bool, marks: u8) -> Result<SheetText<'a>, PortFault>
         ensures read { Reads (text present marks) (λ t. t.bytes.now) itself self.old self.new result }
         ensures stands { IfOk result (λ t. t.place ≡ cond present (Some (self.old.place + 1)) None) }
     {
@@ -97,5 +97,44 @@ impl<'a> Reader<'a> {
             bytes: found.bytes,
             place: Some(found.place),
         })
+    }
+
+    // A number below a limit. The map byte, at `map_place`, stands for a number that is absent.
+    pub fn next_field(
+        &mut self,
+        present: bool,
+        map_place: usize,
+        limit: usize,
+    ) -> Result<u8, PortFault>
+        ensures read { Reads (field present map_place limit) itself itself self.old self.new result }
+        ensures stays { Stays self.old self.new result }
+    {
+        let mut ahead = *self;
+        let value = ahead.take_field(present, map_place, limit)?;
+        *self = ahead;
+        Ok(value)
+    }
+
+    // A move's minutes: two bytes, the high one first.
+    pub fn next_minutes(&mut self, present: bool) -> Result<u16, RecordFault>
+        ensures read { Reads (minutes present) itself Record self.old self.new result }
+        ensures stays { Stays self.old self.new result }
+    {
+        let mut ahead = *self;
+        let minutes = ahead.take_minutes(present)?;
+        *self = ahead;
+        Ok(minutes)
+    }
+
+    // A text that is a formula over the marks, and where its bytes begin; an absent one is `1`, and stands nowhere.
+    pub fn next_text(&mut self, present: bool, marks: u8) -> Result<SheetText<'a>, PortFault>
+        ensures read { Reads (text present marks) (λ t. t.bytes.now) itself self.old self.new result }
+        ensures stands { IfOk result (λ t. t.place ≡ cond present (Some (self.old.place + 1)) None) }
+        ensures stays { Stays self.old self.new result }
+    {
+        let mut ahead = *self;
+        let text = ahead.take_text(present, marks)?;
+        *self = ahead;
+        Ok(text)
     }
 }

@@ -4,7 +4,7 @@ ghost use Rattle.faults.specs.declared.layers.PortFault.TheVariants.{Record};
 ghost use Rattle.faults.specs.declared.layers.RecordFault.TheVariants.{Byte};
 ghost use Rattle.port.specs.Numbers.{most_marks};
 ghost use Rattle.reading.specs.Reading.{opening, count, start_stage, heading};
-ghost use Rattle.reader.specs.Reads.{Reads, itself};
+ghost use Rattle.reader.specs.Reads.{Reads, Stays, itself};
 
 use crate::reader::Reader;
 use faults::{ByteFault, PortFault};
@@ -53,7 +53,8 @@ impl<'a> Reader<'a> {
         Ok(value)
     }
 
-    pub fn next_header(&mut self) -> Result<Header, PortFault>
+    // The header, but a refusal may leave the reader further on.
+    fn take_header(&mut self) -> Result<Header, PortFault>
         ensures read { Reads heading itself itself self.old self.new result }
         ensures marks { IfOk result (λ h. h.marks ≤ most_marks) }
     {
@@ -70,5 +71,17 @@ impl<'a> Reader<'a> {
             stage,
             condition,
         })
+    }
+
+    // The header of a sheet.
+    pub fn next_header(&mut self) -> Result<Header, PortFault>
+        ensures read { Reads heading itself itself self.old self.new result }
+        ensures marks { IfOk result (λ h. h.marks ≤ most_marks) }
+        ensures stays { Stays self.old self.new result }
+    {
+        let mut ahead = *self;
+        let header = ahead.take_header()?;
+        *self = ahead;
+        Ok(header)
     }
 }

@@ -1,7 +1,7 @@
 // What may come next in a draft: the order of the kinds, the room for each, and the rising sequences.
 ghost use Rattle.std.specs.Prelude.{◌≡◌, map as mapped, length, IfOk, MatchResult, nat_lt};
 ghost use Rattle.port.specs.Limits.{key};
-ghost use Rattle.reader.specs.Reads.{Reads, itself};
+ghost use Rattle.reader.specs.Reads.{Reads, Stays, itself};
 ghost use Rattle.records.specs.Admission.{admission};
 ghost use Rattle.records.specs.Drafts.{draft_model};
 ghost use Rattle.records.specs.Kinds.{kind_number};
@@ -25,6 +25,7 @@ impl Draft {
     // What the header tells.
     pub fn begin(reader: &mut Reader, heap: Global) -> Result<Draft, PortFault>
         ensures read { Reads heading (λ d. d.header) itself reader.old reader.new result }
+        ensures stays { Stays reader.old reader.new result }
         ensures begun { IfOk result (λ d. draft_model d ≡ empty d.header) }
     {
         let header = reader.next_header()?;

@@ -4,7 +4,7 @@ ghost use Rattle.records.specs.Drafts.{draft_model};
 ghost use Rattle.records.specs.Kinds.{bit_number};
 ghost use Rattle.records.specs.Entries.{entry_of, head_of, request_at};
 ghost use Rattle.reading.specs.Reading.{low_limit, high_limit, condition as condition_read, move as move_read, request as request_read, head as head_read, present, entry as entry_read, field, text};
-ghost use Rattle.reader.specs.Reads.{Reads, itself};
+ghost use Rattle.reader.specs.Reads.{Reads, Stays, itself};
 
 use crate::draft::Draft;
 use crate::kinds::{Bit, Kind};
@@ -175,8 +175,8 @@ fn read_request<'a>(
     })
 }
 
-// The record that stands next, as it may follow what was read already.
-pub fn read_record<'a>(reader: &mut Reader<'a>, draft: &Draft) -> Result<Record<'a>, PortFault>
+// The record that stands next, but a refusal may leave the reader further on.
+fn take_record<'a>(reader: &mut Reader<'a>, draft: &Draft) -> Result<Record<'a>, PortFault>
     ensures { Reads (entry_read (draft_model draft.now)) entry_of itself reader.old reader.new result }
 {
     let head = read_head(reader, draft)?;
@@ -185,4 +185,15 @@ pub fn read_record<'a>(reader: &mut Reader<'a>, draft: &Draft) -> Result<Record<
         Kind::Move => Ok(Record::Move(read_move(reader, draft, head)?)),
         Kind::Request => Ok(Record::Request(read_request(reader, draft, head)?)),
     }
+}
+
+// The record that stands next, as it may follow what was read already.
+pub fn read_record<'a>(reader: &mut Reader<'a>, draft: &Draft) -> Result<Record<'a>, PortFault>
+    ensures read { Reads (entry_read (draft_model draft.now)) entry_of itself reader.old reader.new result }
+    ensures stays { Stays reader.old reader.new result }
+{
+    let mut ahead = *reader;
+    let record = take_record(&mut ahead, draft)?;
+    *reader = ahead;
+    Ok(record)
 }

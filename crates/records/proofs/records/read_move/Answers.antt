@@ -28,7 +28,7 @@ returns-in_err-minutes c =
     rw (exit _ c.from_residual-in_err-minutes.ensures.1) (then_got _ (field_told _ _ _ refl (c.len-conditions.ensures ∙ c.args.draft.now.conditions.ok.0) c.in_ok-condition.ensures)
     ∙ then_got _ c.in_ok-operation.ensures
     ∙ then_got _ (field_told _ _ _ refl (c.len-conditions.ensures ∙ c.args.draft.now.conditions.ok.0) c.in_ok-outcome.ensures)
-    ∙ then_fault _ (minutes_told _ _ c.has.ensures c.in_err-minutes.ensures))
+    ∙ then_fault _ (minutes_told _ _ c.has.ensures c.in_err-minutes.ensures.read))
 
 pub returns-then-not-move_rises : goal.returns-then-not-move_rises
 unfolding move
@@ -36,7 +36,7 @@ returns-then-not-move_rises c =
     then_got _ (field_told _ _ _ refl (c.len-conditions.ensures ∙ c.args.draft.now.conditions.ok.0) c.in_ok-condition.ensures)
     ∙ then_got _ c.in_ok-operation.ensures
     ∙ then_got _ (field_told _ _ _ refl (c.len-conditions.ensures ∙ c.args.draft.now.conditions.ok.0) c.in_ok-outcome.ensures)
-    ∙ then_got _ (minutes_told _ _ c.has.ensures c.in_ok-minutes.ensures)
+    ∙ then_got _ (minutes_told _ _ c.has.ensures c.in_ok-minutes.ensures.read)
     ∙ failed _ _ (sym c.move_rises.ensures ∙ c.if-not-move_rises.true)
 
 pub returns : goal.returns
@@ -45,5 +45,5 @@ returns c =
     then_got _ (field_told _ _ _ refl (c.len-conditions.ensures ∙ c.args.draft.now.conditions.ok.0) c.in_ok-condition.ensures)
     ∙ then_got _ c.in_ok-operation.ensures
     ∙ then_got _ (field_told _ _ _ refl (c.len-conditions.ensures ∙ c.args.draft.now.conditions.ok.0) c.in_ok-outcome.ensures)
-    ∙ then_got _ (minutes_told _ _ c.has.ensures c.in_ok-minutes.ensures)
+    ∙ then_got _ (minutes_told _ _ c.has.ensures c.in_ok-minutes.ensures.read)
     ∙ passed _ _ (sym c.move_rises.ensures ∙ c.if-not-move_rises.false)

@@ -11,17 +11,17 @@ returns-in_err-found c = λ fuel le.
     let p = err_from_is_err_and c.from_residual.result c.from_residual.ensures.1 in
     let w = from_map_err _ (λ e. Fault e c.loop-heap.count) c.read_record.result c.map_err.result c.in_err-found.field-0.0 c.map_err.ensures.cases (λ e y k. search rules) c.in_err-found.was in
     let i = c.loop-heap.invariant.1 fuel le in
-    rw (p.1, p.2, w.2) (i.2 ∙ records_fault _ _ _ _ _ _ (some_left _ _ c.is_empty.ensures c.loop-heap-test.true) i.1 (rw w.1 at c.read_record.ensures))
+    rw (p.1, p.2, w.2) (i.2 ∙ records_fault _ _ _ _ _ _ (some_left _ _ c.is_empty.ensures c.loop-heap-test.true) i.1 (rw w.1 at c.read_record.ensures.read))
 
 pub loop-heap-smaller : goal.loop-heap-smaller
 loop-heap-smaller c =
     let ok = ok_map_err _ c.read_record.result c.map_err.result c.in_ok-found.found c.map_err.ensures.cases c.in_ok-found.was in
-    entry_less _ _ _ _ _ _ (some_left _ _ c.is_empty.ensures c.loop-heap-test.true) (rw ok at c.read_record.ensures)
+    entry_less _ _ _ _ _ _ (some_left _ _ c.is_empty.ensures c.loop-heap-test.true) (rw ok at c.read_record.ensures.read)
 
 pub loop-heap-preserved : goal.loop-heap-preserved
 loop-heap-preserved c =
     let ok = ok_map_err _ c.read_record.result c.map_err.result c.in_ok-found.found c.map_err.ensures.cases c.in_ok-found.was in
-    let step = rw ok at c.read_record.ensures in
+    let step = rw ok at c.read_record.ensures.read in
     let some = some_left _ _ c.is_empty.ensures c.loop-heap-test.true in (
       omega (arith, entry_less _ _ _ _ _ _ some step, c.loop-heap.invariant.0),
       λ fuel le.

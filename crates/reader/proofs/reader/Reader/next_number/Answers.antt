@@ -11,14 +11,14 @@ returns-then-not-present c = rw c.if-not-present.true refl
 pub returns-in_err-value : goal.returns-in_err-value
 unfolding number
 returns-in_err-value c =
-    rw (exit _ c.from_residual.ensures.1, c.if-not-present.false) (then_fault _ c.in_err-value.ensures)
+    rw (exit _ c.from_residual.ensures.1, c.if-not-present.false) (then_fault _ c.in_err-value.ensures.read)
 
 pub returns-then-value-eq0 : goal.returns-then-value-eq0
 unfolding number
 returns-then-value-eq0 c =
-    rw c.if-not-present.false (then_got _ c.in_ok-value.ensures ∙ failed _ _ (le-ltb _ _ (omega arith)))
+    rw c.if-not-present.false (then_got _ c.in_ok-value.ensures.read ∙ failed _ _ (le-ltb _ _ (omega arith)))
 
 pub returns : goal.returns
 unfolding number
 returns c =
-    rw c.if-not-present.false (then_got _ c.in_ok-value.ensures ∙ passed _ _ (lt-ltb _ _ (omega arith)))
+    rw c.if-not-present.false (then_got _ c.in_ok-value.ensures.read ∙ passed _ _ (lt-ltb _ _ (omega arith)))

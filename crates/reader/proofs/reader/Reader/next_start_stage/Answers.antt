@@ -7,12 +7,12 @@ use Rattle.reader.proofs.reader.Reader.next_start_stage.Goals as goal
 pub returns-in_err-value : goal.returns-in_err-value
 unfolding start_stage
 returns-in_err-value c =
-    rw (exit _ c.from_residual.ensures.1) (then_fault _ c.in_err-value.ensures)
+    rw (exit _ c.from_residual.ensures.1) (then_fault _ c.in_err-value.ensures.read)
 
 pub returns-then-value-stages : goal.returns-then-value-stages
 unfolding start_stage
-returns-then-value-stages c = then_got _ c.in_ok-value.ensures ∙ failed _ _ (le-ltb _ _ (omega arith))
+returns-then-value-stages c = then_got _ c.in_ok-value.ensures.read ∙ failed _ _ (le-ltb _ _ (omega arith))
 
 pub returns : goal.returns
 unfolding start_stage
-returns c = then_got _ c.in_ok-value.ensures ∙ passed _ _ (lt-ltb _ _ (omega arith))
+returns c = then_got _ c.in_ok-value.ensures.read ∙ passed _ _ (lt-ltb _ _ (omega arith))

@@ -2,7 +2,7 @@ use Rattle.std.proofs.Common.{refl, ◌∙◌}
 use Rattle.formula.proofs.Exits.{exit}
 use Rattle.reading.specs.Reading.{text}
 use Rattle.reading.proofs.Steps.{then_got, then_fault, moved_whole, moved_stuck}
-use Rattle.reader.proofs.reader.Reader.next_text.Goals as goal
+use Rattle.reader.proofs.reader.Reader.take_text.Goals as goal
 
 pub returns-then-not-present-clause-read : goal.returns-then-not-present-clause-read
 unfolding text

@@ -3,8 +3,8 @@ use Rattle.formula.proofs.Exits.{exit}
 use Rattle.faults.specs.declared.layers.PortFault.TheVariants.{Missing}
 use Rattle.reading.specs.Reading.{field, fault}
 use Rattle.reading.proofs.Steps.{then_got, then_fault, passed, failed, place_here, place_there}
-use Rattle.reader.proofs.reader.Reader.next_field.Goals as goal
-use Rattle.reader.proofs.reader.Reader.next_field.Goals.{then-present, else-present}
+use Rattle.reader.proofs.reader.Reader.take_field.Goals as goal
+use Rattle.reader.proofs.reader.Reader.take_field.Goals.{then-present, else-present}
 
 pub returns-in_err-value : goal.returns-in_err-value
 unfolding field

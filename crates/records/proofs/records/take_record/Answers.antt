@@ -3,7 +3,7 @@ use Rattle.formula.proofs.Exits.{exit}
 use Rattle.records.specs.Kinds.{kind_number}
 use Rattle.reading.specs.Reading.{entry}
 use Rattle.reading.proofs.Steps.{then_got, then_fault, body_1, body_2, body_3}
-use Rattle.records.proofs.records.read_record.Goals as goal
+use Rattle.records.proofs.records.take_record.Goals as goal
 
 pub returns-in_err-head : goal.returns-in_err-head
 unfolding entry

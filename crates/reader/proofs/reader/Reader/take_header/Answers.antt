@@ -2,7 +2,7 @@ use Rattle.std.proofs.Common.{◌∙◌}
 use Rattle.formula.proofs.Exits.{exit}
 use Rattle.reading.specs.Reading.{heading}
 use Rattle.reading.proofs.Steps.{then_got, then_fault}
-use Rattle.reader.proofs.reader.Reader.next_header.Goals as goal
+use Rattle.reader.proofs.reader.Reader.take_header.Goals as goal
 
 pub returns-in_err-next_opening-clause-read : goal.returns-in_err-next_opening-clause-read
 unfolding heading
@@ -32,12 +32,12 @@ returns-in_err-stage-clause-read c =
 pub returns-in_err-condition-clause-read : goal.returns-in_err-condition-clause-read
 unfolding heading
 returns-in_err-condition-clause-read c =
-    rw (exit _ c.from_residual-in_err-condition.ensures.1) (then_got _ c.in_ok-next_opening.ensures ∙ then_got _ c.in_ok-marks.ensures.read ∙ then_got _ c.in_ok-operations.ensures.read ∙ then_got _ c.in_ok-stages.ensures.read ∙ then_got _ c.in_ok-stage.ensures ∙ then_fault _ c.in_err-condition.ensures)
+    rw (exit _ c.from_residual-in_err-condition.ensures.1) (then_got _ c.in_ok-next_opening.ensures ∙ then_got _ c.in_ok-marks.ensures.read ∙ then_got _ c.in_ok-operations.ensures.read ∙ then_got _ c.in_ok-stages.ensures.read ∙ then_got _ c.in_ok-stage.ensures ∙ then_fault _ c.in_err-condition.ensures.read)
 
 pub returns : goal.returns
 unfolding heading
 returns c =
     record {
-      read = then_got _ c.in_ok-next_opening.ensures ∙ then_got _ c.in_ok-marks.ensures.read ∙ then_got _ c.in_ok-operations.ensures.read ∙ then_got _ c.in_ok-stages.ensures.read ∙ then_got _ c.in_ok-stage.ensures ∙ then_got _ c.in_ok-condition.ensures;
+      read = then_got _ c.in_ok-next_opening.ensures ∙ then_got _ c.in_ok-marks.ensures.read ∙ then_got _ c.in_ok-operations.ensures.read ∙ then_got _ c.in_ok-stages.ensures.read ∙ then_got _ c.in_ok-stage.ensures ∙ then_got _ c.in_ok-condition.ensures.read;
       marks = c.in_ok-marks.ensures.most;
     }
