@@ -1,3 +1,4 @@
 pub mod Places
 pub mod Works
 pub mod Targets
+pub mod Steps

@@ -1,5 +1,5 @@
 // A lock that goes to the outcome that changes the fewest marks.
-ghost use Rattle.std.specs.Prelude.{◌≡◌, true};
+ghost use Rattle.std.specs.Prelude.{◌≡◌, true, false};
 ghost use Rattle.port.specs.Model.{model_of};
 ghost use Rattle.locks.specs.Targets.{Goes, GoesLeast, Nearest};
 ghost use Rattle.locks.specs.Works.{LockWorked, WorkedLeast, change, outcomes};
@@ -56,6 +56,9 @@ impl<'a> Lock for LeastChangeLock<'a> {
 
     ghost present = { λ s. s.marks };
 
+    // An accepted operation changes the fewest marks.
+    ghost works = { λ s o r t. (t.port ≡ s.port) × LockWorked (model_of s.port.now) s.marks o r t.marks × (r ≡ true → WorkedLeast (model_of s.port.now) s.marks o t.marks) × (r ≡ false → t ≡ s) };
+
     fn marks(&self) -> u16 {
         self.marks
     }
@@ -77,6 +80,7 @@ impl<'a> Lock for LeastChangeLock<'a> {
         ensures worked { LockWorked (model_of self.old.port.now) self.old.marks operation result self.new.marks }
         ensures port { self.new.port ≡ self.old.port }
         ensures least { result ≡ true → WorkedLeast (model_of self.old.port.now) self.old.marks operation self.new.marks }
+        ensures refused { result ≡ false → self.new ≡ self.old }
     {
         let Some(marks) = self.target(operation) else {
             return false;

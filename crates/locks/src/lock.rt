@@ -1,5 +1,5 @@
 // What a lock is to whoever works it.
-ghost use Rattle.std.specs.Prelude.{◌≡◌, ℕ};
+ghost use Rattle.std.specs.Prelude.{◌≡◌, ℕ, Bool};
 ghost use Rattle.port.specs.Model.{Model};
 ghost use Rattle.locks.specs.Works.{LockWorked, TellsCondition};
 
@@ -8,6 +8,10 @@ pub trait Lock {
     ghost home: { Self → Model };
 
     ghost present: { Self → ℕ };
+
+    // Worked once with an operation, the lock itself goes from one state to another, and accepts or not: also what it has beside its marks.
+    // A lock that does not define it tells no more of itself than its port and marks.
+    ghost works: { Self → ℕ → Bool → Self → Type 0 } = { λ _ _ _ _. Unit {0} };
 
     fn marks(&self) -> u16
         ensures { result ≡ present self.now };
@@ -25,5 +29,6 @@ pub trait Lock {
     // Works an operation, and tells whether it was accepted.
     fn work(&mut self, operation: u8) -> bool
         ensures kept { home self.new ≡ home self.old }
-        ensures worked { LockWorked (home self.old) (present self.old) operation result (present self.new) };
+        ensures worked { LockWorked (home self.old) (present self.old) operation result (present self.new) }
+        ensures itself { works self.old operation result self.new };
 }

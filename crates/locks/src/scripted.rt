@@ -55,6 +55,9 @@ impl<'a> Lock for ScriptedLock<'a> {
 
     ghost present = { λ s. s.marks };
 
+    // An accepted operation draws one byte of the script, which names the outcome.
+    ghost works = { λ s o r t. (t.port ≡ s.port) × LockWorked (model_of s.port.now) s.marks o r t.marks × (r ≡ true → WorkedNth (model_of s.port.now) s.marks o (slice_index s.script.now 0) t.marks) × (r ≡ true → t.script.now ≡ drop 1 s.script.now) × (r ≡ false → t ≡ s) };
+
     fn marks(&self) -> u16 {
         self.marks
     }
