@@ -1,4 +1,4 @@
--- A log grows by one call, and over a lock of the controller's own port a whole one is a history.
+-- A course grows by one call, and over a lock of the controller's own port a whole one is a history.
 use Rattle.std.proofs.Common.{◌≡◌, ℕ, List, [], ◌∷◌, ◌++◌, map, refl, ap, ◌∙◌, subst}
 use Rattle.port.specs.Limits.{Rise}
 use Rattle.port.specs.Model.{Model, model_of}
@@ -9,29 +9,18 @@ use Rattle.histories.specs.Calls.{Event, History}
 use Rattle.control.specs.declared.terms.Terms.{Terms}
 use Rattle.control.specs.Worlds.{terms_world}
 use Rattle.control.specs.States.{Answer, State, at_of, Does}
-use Rattle.control.specs.Outings.{Turn, Course, Logged, ShowsAll}
+use Rattle.control.specs.Outings.{Turn, Course, ShowsAll}
 use Rattle.control.proofs.Done.{did_own}
 
-map_more : {A B : Type 0} (f : A → B) (xs : List A) (x : A) → map f (xs ++ (x ∷ [])) ≡ map f xs ++ (f x ∷ [])
+pub map_more : {A B : Type 0} (f : A → B) (xs : List A) (x : A) → map f (xs ++ (x ∷ [])) ≡ map f xs ++ (f x ∷ [])
 map_more f [] x = refl
 map_more f (y ∷ xs) x = ap (λ zs. f y ∷ zs) (map_more f xs x)
 
 module _ {K : Type 0} (e : K → List ℕ) (w : World) (cs : List ℕ) (M : Model) where
-  course_more : (ts : List (Turn K)) (a : State) (t : Turn K) → Course e w cs M a ts t.before → Does e w cs M t.before t.command t.answer t.after →
+  pub course_more : (ts : List (Turn K)) (a : State) (t : Turn K) → Course e w cs M a ts t.before → Does e w cs M t.before t.command t.answer t.after →
       Course e w cs M a (ts ++ (t ∷ [])) t.after
   course_more [] a t c d = (c, subst (λ (x : State). Does e w cs M x t.command t.answer t.after) c d, refl)
   course_more (x ∷ ts) a t c d = (c.0, c.1, course_more ts x.after t c.2 d)
-
-  pub logged_more : (a b d : State) (ks : List Command) (rs : List (Answer K)) (k : Command) (r : Answer K) →
-      Logged e w cs M a ks rs b → Does e w cs M b k r d → Logged e w cs M a (ks ++ (k ∷ [])) (rs ++ (r ∷ [])) d
-  logged_more a b d ks rs k r l does =
-      let one : Turn K = record { before = b; command = k; answer = r; after = d } in
-      record {
-        turns = l.turns ++ (one ∷ []);
-        asked = map_more (λ t. t.command) l.turns one ∙ ap (λ (x : List Command). x ++ (k ∷ [])) l.asked;
-        answered = map_more (λ t. t.answer) l.turns one ∙ ap (λ (x : List (Answer K)). x ++ (r ∷ [])) l.answered;
-        chained = course_more l.turns a one l.chained does;
-      }
 
 -- A history of calls, with the commands and the answers of a course.
 pub record Retold {K : Type 0} (e : K → List ℕ) (w : World) (cs : List ℕ) (a : State) (ts : List (Turn K)) (b : State) : Type 0 where

@@ -61,7 +61,7 @@ module _ {K : Type 0} (e : K → List ℕ) (w : World) (P : Model) (up : Rise P.
       )
 
   -- the lock does not refuse what no rule refuses
-  never_balks : (a : State) (k : Command) (r : Refusal) → Balks w P.conditions P a k r → ⊥
+  pub never_balks : (a : State) (k : Command) (r : Refusal) → Balks w P.conditions P a k r → ⊥
   never_balks a k r b =
       let q : ℕ = b.0 in
       let o : ℕ = b.1 in

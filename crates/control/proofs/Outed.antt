@@ -1,5 +1,5 @@
 -- What an outing comes to, from what its parts promise.
-use Rattle.std.proofs.Common.{◌≡◌, ℕ, true, not, cond, leb, ◌&&◌, List, length, Some, None, Option, Ok, Err, Result, IsErrAnd, MatchResult, sym, refl, ap, ◌∙◌, subst, arith}
+use Rattle.std.proofs.Common.{◌≡◌, ℕ, Bool, true, not, cond, leb, ◌&&◌, List, length, Some, None, Option, Ok, Err, Result, IsErrAnd, MatchResult, sym, refl, ap, ◌∙◌, subst, arith}
 use Rattle.std.proofs.lemmas.Bool.{le-leb}
 use Rattle.port.specs.Model.{model_of}
 use Rattle.port.specs.Model.{Model as PortModel}
@@ -7,6 +7,7 @@ use Rattle.port.specs.declared.held.Port.{Port}
 use Rattle.plans.specs.Domains.{domain_of}
 use Rattle.plans.specs.Simulation.{Domain}
 use Rattle.costs.specs.Costs.{Model, Laws}
+use Rattle.locks.specs.Steps.{Steps}
 use Rattle.solver.specs.declared.Entry.{Entry}
 use Rattle.solver.specs.Policy.{Solved, world_of}
 use Rattle.solver.specs.Solving.{enough, pairs_of, places_of}
@@ -18,9 +19,11 @@ use Rattle.control.specs.declared.refusal.Refusal.{Refusal}
 use Rattle.control.specs.declared.tour.OutingError.{OutingError}
 use Rattle.control.specs.declared.tour.OutingError.TheVariants.{Refused}
 use Rattle.control.specs.Numbers.{refusal_number}
+use Rattle.control.specs.Handlings.{Carried, Tended, accepted}
 use Rattle.control.specs.Outings.{Failed, Ready, Logged, ShowsAll, Outed, Told}
 use Rattle.control.specs.Worlds.{opening_rules, world, place_in}
 use Rattle.control.proofs.Courses.{retold}
+use Rattle.control.proofs.Handled.{taken}
 use Rattle.control.proofs.Opened.{opens_in, promises, opening}
 
 module _ {K : Type 0} (k : Model) (e : K → List ℕ) (p : Port) (t : Policy K) (sv : Solved (world k e p t)) where
@@ -56,16 +59,32 @@ module _ {K : Type 0} (k : Model) (e : K → List ℕ) (p : Port) (t : Policy K)
             promise = promises k e p t m laws opens sv h.history _ h.chained;
           }
 
+  -- with what was done to the lock
+  pub carried : {S : Type 0} (present : S → ℕ) (works : S → ℕ → Bool → S → Type 0) → Laws k → (M : PortModel) (s s' : S) (ks : List Command)
+      (rs : List (Answer K)) (x : ℕ) (y : Option ℕ) → refusal (opening_rules k e p t (present s)) ≡ None →
+      Tended e present works (world k e p t) (model_of p).conditions M (state p.header.stage None (present s)) s ks rs (state x y (present s')) s' →
+      Carried k e present works (model_of p) M s ks s' rs
+  unfolding told
+  carried {S} present works laws M s s' ks rs x y opens tended =
+      record {
+        told = told laws M (present s) ks rs (state x y (present s')) opens tended.logged;
+        handled = tended.handled;
+        steps = λ own.
+            subst (λ (as_told : List (Answer K)). Steps works (accepted as_told) s s') tended.logged.answered
+            (taken e works (world k e p t) (model_of p) p.conditions_rise refl M own present tended.logged.turns
+            (state p.header.stage None (present s)) (state x y (present s')) s s' tended.logged.chained tended.handled);
+      }
+
 -- a log of a controller that was opened with these terms
-pub logged_there : {K : Type 0} (k : Model) (e : K → List ℕ) (p' p : Port) (t' t : Policy K) (M : PortModel) (s' s : ℕ) (o' o : Option ℕ) →
-    p' ≡ p → t' ≡ t → s' ≡ s → o' ≡ o → (m : ℕ) (ks : List Command) (rs : List (Answer K)) (last : State) →
-    Logged e (world k e p' t') (model_of p').conditions M (state s' o' m) ks rs last →
-    Logged e (world k e p t) (model_of p).conditions M (state s o m) ks rs last
-logged_there {K} k e p' p t' t M s' s o' o ep et es eo m ks rs last l =
-    let l1 = subst (λ (x : Port). Logged e (world k e x t') (model_of x).conditions M (state s' o' m) ks rs last) ep l in
-    let l2 = subst (λ (x : Policy K). Logged e (world k e p x) (model_of p).conditions M (state s' o' m) ks rs last) et l1 in
-    let l3 = subst (λ (x : ℕ). Logged e (world k e p t) (model_of p).conditions M (state x o' m) ks rs last) es l2 in
-    subst (λ (x : Option ℕ). Logged e (world k e p t) (model_of p).conditions M (state s x m) ks rs last) eo l3
+pub tended_there : {K S : Type 0} (k : Model) (e : K → List ℕ) (present : S → ℕ) (works : S → ℕ → Bool → S → Type 0) (p' p : Port) (t' t : Policy K) (M : PortModel)
+    (s' s : ℕ) (o' o : Option ℕ) → p' ≡ p → t' ≡ t → s' ≡ s → o' ≡ o → (m : ℕ) (u v : S) (ks : List Command) (rs : List (Answer K)) (last : State) →
+    Tended e present works (world k e p' t') (model_of p').conditions M (state s' o' m) u ks rs last v →
+    Tended e present works (world k e p t) (model_of p).conditions M (state s o m) u ks rs last v
+tended_there {K} {S} k e present works p' p t' t M s' s o' o ep et es eo m u v ks rs last l =
+    let l1 = subst (λ (x : Port). Tended e present works (world k e x t') (model_of x).conditions M (state s' o' m) u ks rs last v) ep l in
+    let l2 = subst (λ (x : Policy K). Tended e present works (world k e p x) (model_of p).conditions M (state s' o' m) u ks rs last v) et l1 in
+    let l3 = subst (λ (x : ℕ). Tended e present works (world k e p t) (model_of p).conditions M (state x o' m) u ks rs last v) es l2 in
+    subst (λ (x : Option ℕ). Tended e present works (world k e p t) (model_of p).conditions M (state s x m) u ks rs last v) eo l3
 
 -- the world of tables is that of a policy that shows them
 pub solved_there : {K : Type 0} (k : Model) (e : K → List ℕ) (p : Port) (t : Policy K) (es : List Entry) (cs : List K) (rs : List ℕ) →

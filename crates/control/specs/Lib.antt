@@ -1,4 +1,5 @@
 pub mod Controllers
+pub mod Handlings
 pub mod Numbers
 pub mod Outings
 pub mod Rulings

@@ -2,6 +2,7 @@
 ghost use Rattle.std.specs.Prelude.{◌≡◌, IfOk, IfErr};
 ghost use Rattle.port.specs.Model.{model_of};
 ghost use Rattle.control.specs.Controllers.{DidCall, DoesCall};
+ghost use Rattle.control.specs.Handlings.{HandlesCall};
 ghost use Rattle.control.specs.States.{ask_answer, close_answer, finish_answer, grant_answer, quote_answer, step_answer};
 
 use crate::answer::{Answer, Reply};
@@ -50,6 +51,7 @@ impl<'a, C: CostModel> Controller<'a, C> {
     fn work_on<L: Lock>(&self, request: u8, lock: &mut L) -> Result<u8, Refusal>
         ensures home { L.home lock.new ≡ L.home lock.old }
         ensures does { DoesCall C.model C.exact (L.home lock.old) self.now (L.present lock.old) (Command.Step request) (step_answer result) self.now (L.present lock.new) }
+        ensures handles { HandlesCall C.model C.exact L.present L.works self.now (Command.Step request) (step_answer result) lock.old lock.new }
     {
         let Reply::Worked(operation) = self.rule(Command::Step(request), lock.marks())? else {
             unreachable!()
@@ -65,6 +67,7 @@ impl<'a, C: CostModel> Controller<'a, C> {
         ensures home { L.home lock.new ≡ L.home lock.old }
         ensures does { DoesCall C.model C.exact (L.home lock.old) self.now (L.present lock.old) (Command.Step grant.now.request) (step_answer result) self.now (L.present lock.new) }
         ensures did { L.home lock.old ≡ model_of self.now.terms.port.now → DidCall C.model C.exact self.now (L.present lock.old) (Command.Step grant.now.request) (step_answer result) self.now (L.present lock.new) }
+        ensures handles { HandlesCall C.model C.exact L.present L.works self.now (Command.Step grant.now.request) (step_answer result) lock.old lock.new }
     {
         self.work_on(grant.request, lock)
     }
@@ -115,6 +118,7 @@ impl<'a, C: CostModel> Controller<'a, C> {
     pub(crate) fn perform<L: Lock>(&mut self, command: Command, lock: &mut L) -> Answer<C::Cost>
         ensures home { L.home lock.new ≡ L.home lock.old }
         ensures does { DoesCall C.model C.exact (L.home lock.old) self.old (L.present lock.old) command result self.new (L.present lock.new) }
+        ensures handles { HandlesCall C.model C.exact L.present L.works self.old command result lock.old lock.new }
     {
         match command {
             Command::Quote(request) => Ok(Reply::Quoted(self.quote(request, lock)?)),

@@ -1,6 +1,7 @@
 // A whole outing: solve a port, open a controller over a lock, and carry out commands.
 ghost use Rattle.std.specs.Prelude.{◌≡◌, ◌≤◌, [], length, vec_capacity, MatchResult, Some};
 ghost use Rattle.port.specs.Model.{model_of};
+ghost use Rattle.control.specs.Handlings.{Carried, Tended};
 ghost use Rattle.control.specs.Outings.{Failed, Logged, Told, outing_error_text};
 ghost use Rattle.control.specs.States.{state};
 ghost use Rattle.control.specs.Worlds.{terms_world};
@@ -65,6 +66,7 @@ impl<'a, C: CostModel> Controller<'a, C> {
         requires room { length commands.now ≤ vec_capacity log.old }
         ensures home { L.home lock.new ≡ L.home lock.old }
         ensures logged { Logged C.exact (terms_world C.model C.exact self.old.terms) (model_of self.old.terms.port.now).conditions (L.home lock.old) (state self.old.stage self.old.out (L.present lock.old)) commands.now log.new.items (state self.new.stage self.new.out (L.present lock.new)) }
+        ensures tended { Tended C.exact L.present L.works (terms_world C.model C.exact self.old.terms) (model_of self.old.terms.port.now).conditions (L.home lock.old) (state self.old.stage self.old.out (L.present lock.old)) lock.old commands.now log.new.items (state self.new.stage self.new.out (L.present lock.new)) lock.new }
     {
         for command in commands {
             let answer = self.perform(*command, lock);
@@ -83,6 +85,7 @@ pub fn outing<C: CostModel, L: Lock>(
 ) -> Result<Vec<Answer<C::Cost>>, OutingError>
     ensures home { L.home lock.new ≡ L.home lock.old }
     ensures told { MatchResult result (λ log. Told C.model C.exact (model_of port.now) (L.home lock.old) (L.present lock.old) commands.now (L.present lock.new) log.items) (λ e. Failed C.model (model_of port.now) (L.present lock.old) (L.present lock.new) e) }
+    ensures carried { MatchResult result (λ log. Carried C.model C.exact L.present L.works (model_of port.now) (L.home lock.old) lock.old commands.now lock.new log.items) (λ _. lock.new ≡ lock.old) }
 {
     let tables = solved::<C>(heap, port)?;
     let mut log = Vec::with_capacity(heap, commands.len())?;

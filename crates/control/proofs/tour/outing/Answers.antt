@@ -2,11 +2,11 @@ use Rattle.std.proofs.Common.{length, None, ap, ◌∙◌, rules}
 use Rattle.port.specs.Model.{model_of}
 use Rattle.plans.specs.Domains.{domain_of}
 use Rattle.control.specs.Controllers.{beside}
-use Rattle.control.proofs.Outed.{barred, logged_there, roomy, solved_there, told}
+use Rattle.control.proofs.Outed.{barred, carried, roomy, solved_there, tended_there}
 use Rattle.control.proofs.tour.outing.Goals as goal
 
-pub returns-clause-told : goal.returns-clause-told
-returns-clause-told g c =
+pub returns : goal.returns
+returns g c =
     let k = g.C.CostModel.model in
     let e = g.C.CostModel.exact in
     let p = c.args.port.now in
@@ -17,11 +17,15 @@ returns-clause-told g c =
     let rs = c.run.new.log.items in
     let a = c.in_ok-controller.controller in
     let o = c.in_ok-controller.ensures.opened in
-    let last = beside c.run.new.self (g.L.Lock.present c.run.new.lock) in
+    let L = g.L.Lock in
+    let before = c.args.lock.now in
+    let after = c.run.new.lock in
     let s = solved_there k e p t _ _ _ c.from.ensures.0 c.from.ensures.1 c.from.ensures.2 c.in_ok-tables.ensures.solved in
-    told k e p t s g.C.CostModel.laws M m ks rs last o.4
-    (logged_there k e a.terms.port.now p a.terms.policy t M a.stage p.header.stage a.out None (ap (λ x. x.now) o.0) o.1 o.2 o.3 m ks rs last
-    c.run.ensures.logged)
+    let log =
+    carried k e p t s L.present L.works g.C.CostModel.laws M before after ks rs c.run.new.self.stage c.run.new.self.out o.4
+    (tended_there k e L.present L.works a.terms.port.now p a.terms.policy t M a.stage p.header.stage a.out None (ap (λ x. x.now) o.0) o.1 o.2 o.3 m before after ks
+    rs (beside c.run.new.self (L.present after)) c.run.ensures.tended) in
+    record { home = c.run.ensures.home; told = log.told; carried = log }
 
 pub returns-in_err-controller-clause-told : goal.returns-in_err-controller-clause-told
 returns-in_err-controller-clause-told g c =
