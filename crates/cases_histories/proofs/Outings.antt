@@ -50,7 +50,7 @@ chained v cs M a t ts b rest =
     (states_tell t.before a) (does_decided v cs M a t.command t.answer t.after) rest in
     (λ e. let h = parts.0 e in (h.0, h.1.0, h.1.1), λ c. parts.1 (c.0, (c.1, c.2)))
 
-course_decided : (v : World) (cs : List ℕ) (M : Model) (a : State) (ts : List (Turn (List ℕ))) (b : State) →
+pub course_decided : (v : World) (cs : List ℕ) (M : Model) (a : State) (ts : List (Turn (List ℕ))) (b : State) →
     (course_test v cs M a ts b ≡ true) ↔ Course as_given v cs M a ts b
 course_decided v cs M a [] b = states_tell b a
 course_decided v cs M a (t ∷ ts) b = chained v cs M a t ts b (course_decided v cs M t.after ts b)
@@ -96,7 +96,7 @@ abbrev holds_some : {A : Type 0} → List A → ℕ
 holds_some [] = 0
 holds_some (x ∷ xs) = 1
 
-some_nothing : {A : Type 0} {P : Type 0} (x : A) (xs : List A) → x ∷ xs ≡ [] → P
+pub some_nothing : {A : Type 0} {P : Type 0} (x : A) (xs : List A) → x ∷ xs ≡ [] → P
 some_nothing x xs e = let z : ◌≡◌ {A = ℕ} 1 0 = ap holds_some e in absurd (omega arith)
 
 abbrev idle : State
@@ -104,7 +104,7 @@ idle = state 0 None 0
 
 module _ (v : World) (cs : List ℕ) (M : Model) (a b : State) where
   -- without commands there are no calls
-  no_turns : (ts : List (Turn (List ℕ))) → map (λ (t : Turn (List ℕ)). t.command) ts ≡ [] → Course as_given v cs M a ts b → b ≡ a
+  pub no_turns : (ts : List (Turn (List ℕ))) → map (λ (t : Turn (List ℕ)). t.command) ts ≡ [] → Course as_given v cs M a ts b → b ≡ a
   no_turns [] e c = c
   no_turns (t ∷ ts) e c = some_nothing t.command (map (λ (t : Turn (List ℕ)). t.command) ts) e
 
@@ -181,17 +181,17 @@ alone_solved = record {
   entered = λ q c l m. let n : q < 0 = l in absurd (omega arith);
 }
 
-alone_ready : Ready first minutes_model (alone 0)
+pub alone_ready : Ready first minutes_model (alone 0)
 alone_ready = record { over = refl; under = refl; solved = alone_solved }
 
-alone_promised : Promised (alone 0) (start_at 0 (Some 0))
+pub alone_promised : Promised (alone 0) (start_at 0 (Some 0))
 alone_promised = promise_holds (alone 0) minutes_laws formed alone_solved 0 (Some 0) (omega arith) refl
 
-alone_opening : (c : ℕ) → Some 0 ≡ Some c → Opening (alone 0) 0 c
+pub alone_opening : (c : ℕ) → Some 0 ≡ Some c → Opening (alone 0) 0 c
 alone_opening c e =
     subst (λ (x : ℕ). Opening (alone 0) 0 x) (some_inj e) (opening_holds (alone 0) alone_solved 0 0 (omega arith) (omega arith))
 
-no_tales : Told minutes_model as_given first first 0 [] 0 []
+abbrev pub no_tales : Told minutes_model as_given first first 0 [] 0 []
 no_tales = record {
   world = alone 0;
   ready = alone_ready;

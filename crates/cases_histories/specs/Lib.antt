@@ -11,3 +11,4 @@ pub mod Controls
 pub mod Answers
 pub mod Outings
 pub mod Worlds
+pub mod Handlings

@@ -6,6 +6,7 @@ ghost use Rattle.cases_histories.specs.Answers.{AnswersSay};
 ghost use Rattle.cases_histories.specs.Calls.{CallsSay};
 ghost use Rattle.cases_histories.specs.Controls.{ControlsSay, NumberedSay};
 ghost use Rattle.cases_histories.specs.Errands.{ErrandsSay};
+ghost use Rattle.cases_histories.specs.Handlings.{HandlingsSay, OperationsSay};
 ghost use Rattle.cases_histories.specs.Histories.{HistoriesSay};
 ghost use Rattle.cases_histories.specs.Outings.{CoursesSay, ErrorsSay, LogsSay};
 ghost use Rattle.cases_histories.specs.Policies.{PoliciesSay};
@@ -97,4 +98,14 @@ pub fn errors_stand()
 // The logs of outings.
 pub fn logs_stand()
     ensures { LogsSay }
+{}
+
+// The operations of the accepted steps.
+pub fn operations_stand()
+    ensures { OperationsSay }
+{}
+
+// What calls do with the lock itself.
+pub fn handlings_stand()
+    ensures { HandlingsSay }
 {}

@@ -11,3 +11,4 @@ pub mod Costs
 pub mod Models
 pub mod Worked
 pub mod Locks
+pub mod Steps

@@ -10,3 +10,4 @@ pub mod Costs
 pub mod Models
 pub mod Compare
 pub mod Locks
+pub mod Steps

@@ -11,6 +11,7 @@ ghost use Rattle.cases_plans.specs.Models.{ModelsSay, OrdersSay};
 ghost use Rattle.cases_plans.specs.Plans.{PlansSay};
 ghost use Rattle.cases_plans.specs.Sets.{ComputedSay, IterationsSay, SetsSay};
 ghost use Rattle.cases_plans.specs.Simulations.{SimulationsSay};
+ghost use Rattle.cases_plans.specs.Steps.{StepsSay};
 
 // Moves, plans, runs, and what a plan attains.
 pub fn plans_stand()
@@ -95,4 +96,9 @@ pub fn lookups_stand()
 // What a lock tells and does.
 pub fn locks_stand()
     ensures { LocksSay }
+{}
+
+// How a lock goes on when it is worked.
+pub fn steps_stand()
+    ensures { StepsSay }
 {}
