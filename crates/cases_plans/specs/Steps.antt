@@ -1,6 +1,6 @@
 -- Examples of how a lock goes on when it is worked, whatever it has beside its marks.
 use Rattle.std.specs.Prelude.{◌≡◌, ℕ, ◌+◌, ◌*◌, Bool, not, List, [], ◌∷◌, ◌==◌}
-use Rattle.locks.specs.Steps.{Steps}
+use Rattle.locks.specs.Steps.{WorkedInTurn}
 use Rattle.cases_plans.specs.Rows.{Row, holds, fails, AllSay}
 
 -- a lock that is a number and writes down each operation as one digit more; it refuses operation 9
@@ -17,11 +17,11 @@ abbrev pub steps : List ℕ → ℕ → ℕ → Claim
 steps os s t = record { operations = os; before = s; after = t }
 
 abbrev pub Means : Claim → Type 0
-Means x = Steps writes x.operations x.before x.after
+Means x = WorkedInTurn writes x.operations x.before x.after
 
 abbrev pub rows : List (Row Claim)
 rows =
-    -- Steps: each operation once, in their order, and all accepted
+    -- WorkedInTurn: each operation once, in their order, and all accepted
     holds (steps (1 ∷ 2 ∷ []) 0 12) ∷
     holds (steps (3 ∷ []) 7 73) ∷
     holds (steps [] 5 5) ∷

@@ -3,7 +3,7 @@ use Rattle.std.proofs.Common.{◌≡◌, ℕ, Bool, List, [], ◌∷◌, ◌++�
 use Rattle.port.specs.Limits.{Rise}
 use Rattle.port.specs.Model.{Model, model_of}
 use Rattle.costs.specs.Costs.{Model as CostsOf}
-use Rattle.locks.specs.Steps.{Steps}
+use Rattle.locks.specs.Steps.{WorkedInTurn}
 use Rattle.solver.specs.Policy.{World}
 use Rattle.histories.specs.declared.Command.{Command}
 use Rattle.histories.specs.Calls.{refusal, rules}
@@ -63,12 +63,12 @@ handles_there {X} {K} {S} k e works t' t p a c r s v h =
 
 module _ {K S : Type 0} (e : K → List ℕ) (works : S → ℕ → Bool → S → Type 0) (w : World) (P : Model) (up : Rise P.conditions) (moves : w.domain.moves ≡ P.moves) (M : Model) (own : M ≡ P) where
   step_taken : (a : State) (k : Command) (r : Answer K) (b : State) (os : List ℕ) (s u s' : S) → Does e w P.conditions M a k r b →
-      Handles works w (at_of P.conditions a) k r s u → Steps works os u s' → Steps works (operation_of r ++ os) s s'
-  step_taken a k (Ok (Quoted x)) b os s u s' d h rest = subst (λ (y : S). Steps works os y s') h rest
-  step_taken a k (Ok (Granted x)) b os s u s' d h rest = subst (λ (y : S). Steps works os y s') h rest
+      Handles works w (at_of P.conditions a) k r s u → WorkedInTurn works os u s' → WorkedInTurn works (operation_of r ++ os) s s'
+  step_taken a k (Ok (Quoted x)) b os s u s' d h rest = subst (λ (y : S). WorkedInTurn works os y s') h rest
+  step_taken a k (Ok (Granted x)) b os s u s' d h rest = subst (λ (y : S). WorkedInTurn works os y s') h rest
   step_taken a k (Ok (Worked o)) b os s u s' d h rest = (u, (h, rest))
-  step_taken a k (Ok (Closed x)) b os s u s' d h rest = subst (λ (y : S). Steps works os y s') h rest
-  step_taken a k (Err r) b os s u s' d (inl h) rest = subst (λ (y : S). Steps works os y s') h.1 rest
+  step_taken a k (Ok (Closed x)) b os s u s' d h rest = subst (λ (y : S). WorkedInTurn works os y s') h rest
+  step_taken a k (Err r) b os s u s' d (inl h) rest = subst (λ (y : S). WorkedInTurn works os y s') h.1 rest
   step_taken a k (Err r) b os s u s' (is, inl n) (inr h) rest =
       absurd (some_none (sym n ∙ ap (λ (x : Command). refusal (rules w (at_of P.conditions a) x)) h.2.0 ∙ h.2.1))
   step_taken a k (Err r) b os s u s' (is, inr f) (inr h) rest =
@@ -76,7 +76,7 @@ module _ {K S : Type 0} (e : K → List ℕ) (works : S → ℕ → Bool → S �
 
   -- over a lock of the controller's own port
   pub taken : (present : S → ℕ) (ts : List (Turn K)) (a b : State) (s s' : S) → Course e w P.conditions M a ts b →
-      HandlesAll present works w P.conditions ts s s' → Steps works (accepted (map (λ t. t.answer) ts)) s s'
+      HandlesAll present works w P.conditions ts s s' → WorkedInTurn works (accepted (map (λ t. t.answer) ts)) s s'
   taken present [] a b s s' c h = h
   taken present (t ∷ ts) a b s s' c h =
       step_taken a t.command t.answer t.after (accepted (map (λ t. t.answer) ts)) s h.0 s' c.1

@@ -7,7 +7,7 @@ use Rattle.port.specs.declared.held.Port.{Port}
 use Rattle.plans.specs.Domains.{domain_of}
 use Rattle.plans.specs.Simulation.{Domain}
 use Rattle.costs.specs.Costs.{Model, Laws}
-use Rattle.locks.specs.Steps.{Steps}
+use Rattle.locks.specs.Steps.{WorkedInTurn}
 use Rattle.solver.specs.declared.Entry.{Entry}
 use Rattle.solver.specs.Policy.{Solved, world_of}
 use Rattle.solver.specs.Solving.{enough, pairs_of, places_of}
@@ -70,7 +70,7 @@ module _ {K : Type 0} (k : Model) (e : K → List ℕ) (p : Port) (t : Policy K)
         told = told laws M (present s) ks rs (state x y (present s')) opens tended.logged;
         handled = tended.handled;
         steps = λ own.
-            subst (λ (as_told : List (Answer K)). Steps works (accepted as_told) s s') tended.logged.answered
+            subst (λ (as_told : List (Answer K)). WorkedInTurn works (accepted as_told) s s') tended.logged.answered
             (taken e works (world k e p t) (model_of p) p.conditions_rise refl M own present tended.logged.turns
             (state p.header.stage None (present s)) (state x y (present s')) s s' tended.logged.chained tended.handled);
       }

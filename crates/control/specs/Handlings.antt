@@ -2,7 +2,7 @@
 use Rattle.std.specs.Prelude.{◌≡◌, ℕ, Bool, true, false, ◌⊎◌, List, [], ◌∷◌, ◌++◌, Some, Ok, Err}
 use Rattle.port.specs.Model.{Model as PortModel}
 use Rattle.costs.specs.Costs.{Model}
-use Rattle.locks.specs.Steps.{Steps}
+use Rattle.locks.specs.Steps.{WorkedInTurn}
 use Rattle.solver.specs.Policy.{World}
 use Rattle.histories.specs.declared.Command.{Command}
 use Rattle.histories.specs.declared.Command.TheVariants.{Step}
@@ -64,4 +64,4 @@ accepted (r ∷ rs) = operation_of r ++ accepted rs
 pub record Carried {K S : Type 0} (k : Model) (e : K → List ℕ) (present : S → ℕ) (works : S → ℕ → Bool → S → Type 0) (P M : PortModel) (s : S) (ks : List Command) (s' : S) (rs : List (Answer K)) : Type 0 where
   pub told : Told k e P M (present s) ks (present s') rs
   pub handled : HandlesAll present works told.world P.conditions told.logged.turns s s'
-  pub steps : M ≡ P → Steps works (accepted rs) s s'
+  pub steps : M ≡ P → WorkedInTurn works (accepted rs) s s'
