@@ -1,5 +1,5 @@
 -- What a cost model is: exact costs are lists of whole numbers, one for each column.
-use Rattle.std.specs.Prelude.{◌≡◌, ℕ, ◌-◌, ◌<◌, ◌≤◌, Bool, T, ◌⊎◌, List, [], ◌∷◌, length}
+use Rattle.std.specs.Prelude.{◌≡◌, ℕ, ◌-◌, ◌≤◌, Bool, T, ◌⊎◌, List, [], ◌∷◌, length}
 use Rattle.port.specs.Limits.{Limited}
 use Rattle.port.specs.declared.Move.{Move}
 

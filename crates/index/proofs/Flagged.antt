@@ -26,8 +26,8 @@ module _ (into : List (List Bool)) (c d : ℕ) (row : List Bool) (inside : d < l
   new_there : (a b : ℕ) → (a ≡ c → b ≡ d → ⊥) → flagged new a b ≡ flagged into a b
   new_there a b differ = ⊎_elim
       (λ z. subst (λ y. flagged new a y ≡ flagged into a y) (sym z)
-          (ap (λ (r : List Bool). get_or r a false) (get_or-set_same into d (set row c true) [] inside) ∙ get_or-set_other row c a true false (λ q. differ q z)
-          ∙ ap (λ (r : List Bool). get_or r a false) (is ∙ get_or_default into d row [] inside)))
+      (ap (λ (r : List Bool). get_or r a false) (get_or-set_same into d (set row c true) [] inside) ∙ get_or-set_other row c a true false (λ q. differ q z)
+      ∙ ap (λ (r : List Bool). get_or r a false) (is ∙ get_or_default into d row [] inside)))
       (λ z. ap (λ (r : List Bool). get_or r a false) (get_or-set_other into d b (set row c true) [] z))
       (cases_eq b d)
 

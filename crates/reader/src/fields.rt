@@ -32,12 +32,7 @@ impl<'a> Reader<'a> {
     }
 
     // A number below a limit, but a refusal may leave the reader further on.
-    fn take_field(
-        &mut self,
-        present: bool,
-        map_place: usize,
-        limit: usize,
-    ) -> Result<u8, PortFault>
+    fn take_field(&mut self, present: bool, map_place: usize, limit: usize) -> Result<u8, PortFault>
         ensures { Reads (field present map_place limit) itself itself self.old self.new result }
     {
         let place = if present { self.place } else { map_place };

@@ -1,4 +1,4 @@
-use Rattle.std.proofs.Common.{◌≡◌, ℕ, ◌+◌, List, [], ◌∷◌, get_or, ap, ap₂, arith}
+use Rattle.std.proofs.Common.{ℕ, List, [], ◌∷◌, get_or, ap, ap₂, arith}
 use Rattle.costs.proofs.Sums.{minutes_count, minutes_bound}
 use Rattle.costs.proofs.models.MinutesCostModel.TheImpl.Goals as goal
 
