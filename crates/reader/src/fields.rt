@@ -94,6 +94,9 @@ impl<'a> Reader<'a> {
         })
     }
 
+    // Stays: a `take_` beside each `next_` that reads more than a byte, here, in the header and in the records. One function that goes ahead
+    // for all of them would take the step as a closure, whose clauses would have to be told again at each call.
+
     // A number below a limit. The map byte, at `map_place`, stands for a number that is absent.
     pub fn next_field(
         &mut self,
