@@ -31,66 +31,50 @@ fn stands_in(marks: u16, k: u8) -> bool
     k < 16 && marks >> k & 1 == 1
 }
 
-// A place in a text over `count` marks, of which `marks` stand.
+// A text over `count` marks, of which `marks` stand.
 #[derive(Clone, Copy)]
-struct Spot<'a> {
+struct Marked<'a> {
     text: &'a [u8],
     count: u8,
     marks: u16,
-    place: usize,
-    ghost within: { place ≤ length text.now },
 }
 
-impl<'a> Spot<'a> {
-    // Another place in the text.
-    // Stays: each field, since Rattle has no `..self` for a struct with a ghost field.
-    fn at(self, place: usize) -> Spot<'a>
-        requires { place ≤ length self.text.now }
-        ensures text { result.text.now ≡ self.entry.text.now }
-        ensures count { result.count ≡ self.entry.count }
-        ensures marks { result.marks ≡ self.entry.marks }
-        ensures place { result.place ≡ place }
+// Stays: the place as a parameter, and the text by reference, which every reader hands on as it is: in one struct with the text each
+// reader would have a copy of its own, on a stack that grows with each `!`, `(`, `&` and `|`.
+impl Marked<'_> {
+    // The byte at a place, or none at the end.
+    fn byte(&self, place: usize) -> Option<u8>
+        ensures { MatchOption result (length self.now.text.now ≤ place) (Stands self.now.text.now place) }
     {
-        Spot {
-            text: self.text,
-            count: self.count,
-            marks: self.marks,
-            place,
-        }
-    }
-
-    // The byte that stands here, or none at the end.
-    fn byte(self) -> Option<u8>
-        ensures { MatchOption result (length self.entry.text.now ≤ self.entry.place) (Stands self.entry.text.now self.entry.place) }
-    {
-        self.text.get(self.place).copied()
+        self.text.get(place).copied()
     }
 
     // Whether this byte stands at that place.
-    fn has(self, place: usize, byte: u8) -> bool
-        ensures { MatchBool result (Stands self.entry.text.now place byte) (Stands self.entry.text.now place byte → ⊥) }
+    fn has(&self, place: usize, byte: u8) -> bool
+        ensures { MatchBool result (Stands self.now.text.now place byte) (Stands self.now.text.now place byte → ⊥) }
     {
         self.text.get(place) == Some(&byte)
     }
 
-    // The atom that stands here: 0, 1, a letter, an atom after `!`, or a sum in brackets; its value and the place after it.
+    // The atom at `place`: 0, 1, a letter, an atom after `!`, or a sum in brackets; its value and the place after it.
     #[cycle(read_atom_read_product_read_sum)]
-    fn read_atom(self) -> Result<(bool, usize), FormulaFault>
-        ensures { MatchResult result (λ x. AtomRead self.entry.count self.entry.marks self.entry.text.now self.entry.place x.0 x.1) (λ e. Refused self.entry.count self.entry.text.now self.entry.place e.place) }
+    fn read_atom(&self, place: usize) -> Result<(bool, usize), FormulaFault>
+        requires { place ≤ length self.now.text.now }
+        ensures { MatchResult result (λ x. AtomRead self.now.count self.now.marks self.now.text.now place x.0 x.1) (λ e. Refused self.now.count self.now.text.now place e.place) }
     {
-        let Some(byte) = self.byte() else {
-            return Err(FormulaFault { place: self.place });
+        let Some(byte) = self.byte(place) else {
+            return Err(FormulaFault { place });
         };
-        let next = self.place + 1;
+        let next = place + 1;
         match byte {
             b'0' => Ok((false, next)),
             b'1' => Ok((true, next)),
             b'!' => {
-                let (value, after) = self.at(next).read_atom()?;
+                let (value, after) = self.read_atom(next)?;
                 Ok((!value, after))
             }
             b'(' => {
-                let (value, after) = self.at(next).read_sum()?;
+                let (value, after) = self.read_sum(next)?;
                 if self.has(after, b')') {
                     Ok((value, after + 1))
                 } else {
@@ -102,37 +86,39 @@ impl<'a> Spot<'a> {
                 if mark < self.count {
                     Ok((stands_in(self.marks, mark), next))
                 } else {
-                    Err(FormulaFault { place: self.place })
+                    Err(FormulaFault { place })
                 }
             }
-            _ => Err(FormulaFault { place: self.place }),
+            _ => Err(FormulaFault { place }),
         }
     }
 
     // Stays: two readers of one form, for products and for sums. One for both would ask at each of its three steps
     // which of the two it is: which reader is below, which byte stands between, and how two values are joined.
 
-    // The longest product from here on: atoms with `&` between them.
+    // The longest product at `place`: atoms with `&` between them.
     #[cycle(read_atom_read_product_read_sum)]
-    fn read_product(self) -> Result<(bool, usize), FormulaFault>
-        ensures { MatchResult result (λ x. ProductRead self.entry.count self.entry.marks self.entry.text.now self.entry.place x.0 x.1) (λ e. Refused self.entry.count self.entry.text.now self.entry.place e.place) }
+    fn read_product(&self, place: usize) -> Result<(bool, usize), FormulaFault>
+        requires { place ≤ length self.now.text.now }
+        ensures { MatchResult result (λ x. ProductRead self.now.count self.now.marks self.now.text.now place x.0 x.1) (λ e. Refused self.now.count self.now.text.now place e.place) }
     {
-        let (value, after) = self.read_atom()?;
+        let (value, after) = self.read_atom(place)?;
         if self.has(after, b'&') {
-            let (more, end) = self.at(after + 1).read_product()?;
+            let (more, end) = self.read_product(after + 1)?;
             return Ok((value && more, end));
         }
         Ok((value, after))
     }
 
-    // The longest sum from here on: products with `|` between them.
+    // The longest sum at `place`: products with `|` between them.
     #[cycle(read_atom_read_product_read_sum)]
-    fn read_sum(self) -> Result<(bool, usize), FormulaFault>
-        ensures { MatchResult result (λ x. SumRead self.entry.count self.entry.marks self.entry.text.now self.entry.place x.0 x.1) (λ e. Refused self.entry.count self.entry.text.now self.entry.place e.place) }
+    fn read_sum(&self, place: usize) -> Result<(bool, usize), FormulaFault>
+        requires { place ≤ length self.now.text.now }
+        ensures { MatchResult result (λ x. SumRead self.now.count self.now.marks self.now.text.now place x.0 x.1) (λ e. Refused self.now.count self.now.text.now place e.place) }
     {
-        let (value, after) = self.read_product()?;
+        let (value, after) = self.read_product(place)?;
         if self.has(after, b'|') {
-            let (more, end) = self.at(after + 1).read_sum()?;
+            let (more, end) = self.read_sum(after + 1)?;
             return Ok((value || more, end));
         }
         Ok((value, after))
@@ -143,13 +129,7 @@ impl<'a> Spot<'a> {
 pub fn evaluate(text: &[u8], count: u8, marks: u16) -> Result<bool, FormulaFault>
     ensures { MatchResult result (λ v. Whole count marks text.now v × (v ≡ truth count marks text.now) × (is_formula count text.now ≡ true)) (λ e. NoFormula count text.now e.place × (verdict count text.now ≡ stuck e.place) × (is_formula count text.now ≡ false)) }
 {
-    let start = Spot {
-        text,
-        count,
-        marks,
-        place: 0,
-    };
-    let (value, end) = start.read_sum()?;
+    let (value, end) = Marked { text, count, marks }.read_sum(0)?;
     // Stays: two numbers are compared, and no byte is wanted of that place.
     if end < text.len() {
         return Err(FormulaFault { place: end });
