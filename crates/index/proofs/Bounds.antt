@@ -45,12 +45,6 @@ index_limited index = in_each no_move Limited (moves_of index) (λ i l.
 pub port_exist : (p : Port) → MovesExist (vec_len p.conditions) 256 (vec_items p.moves)
 port_exist p = exist_wide (vec_len p.conditions) p.header.operations (vec_items p.moves) p.operations_few p.moves_exist
 
--- the moves of a port stand in order of condition
-pub port_sorted : (p : Port) → IsNonDecreasingBy (λ (m : Move). m.condition) (vec_items p.moves)
-port_sorted p =
-    IsNonDecreasingBy-from_default (λ (m : Move). m.condition) (vec_items p.moves) no_move
-    (conditions_rise (vec_len p.conditions) (vec_items p.moves) p.conditions_few (port_exist p) p.moves_rise)
-
--- and in their order
+-- the moves of a port stand in their order
 pub port_keys : (p : Port) → IsNonDecreasingBy key (vec_items p.moves)
 port_keys p = IsNonDecreasingBy-from_default key (vec_items p.moves) no_move (keys (vec_len p.conditions) (vec_items p.moves) p.conditions_few (port_exist p) p.moves_rise)

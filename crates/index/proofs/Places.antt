@@ -1,6 +1,7 @@
 -- What an index of moves finds.
-use Rattle.std.proofs.Common.{◌≡◌, ℕ, ◌+◌, ◌<◌, ◌≤◌, ◌==◌, Bool, true, false, Option, Some, None, List, [], length, Bor, vec_items, sym, ap, ◌∙◌, subst, inl, inr, refl, cond, ◌∷◌, ⊎_elim, true≢false, arith}
+use Rattle.std.proofs.Common.{◌≡◌, ℕ, ◌+◌, ◌-◌, ◌<◌, ◌≤◌, ◌==◌, ◌++◌, get_or, drop, below_more, vec_len, Bool, true, false, Option, Some, None, List, [], length, Bor, vec_items, sym, ap, ◌∙◌, subst, inl, inr, refl, cond, ◌∷◌, ⊎_elim, true≢false, arith}
 use Rattle.std.proofs.lemmas.Bool.{cases_lt, eq-eqb, eqb-true, ne_eqb}
+use Rattle.std.proofs.lemmas.List.{get_or-drop, get_or_append_left, get_or_at, length-drop}
 use Rattle.std.specs.List.{ItemBy}
 use Rattle.std.specs.Option.{option_copied, unwrap_or}
 use Rattle.std.proofs.lemmas.List.Kept.{IsNonDecreasingBy-filter}
@@ -11,7 +12,7 @@ use Rattle.plans.specs.Plans.{Within}
 use Rattle.index.specs.Indexed.{count_of, moves_of, port_of}
 use Rattle.index.specs.declared.MoveIndex.{MoveIndex}
 use Rattle.index.specs.Indexes.{Apart, Bare, Flags, From, Ordered, Start, flagged, row}
-use Rattle.index.proofs.Bounds.{index_within, port_keys}
+use Rattle.index.proofs.Bounds.{conditions_rise, index_within, port_exist, port_keys}
 use Rattle.index.proofs.Lists.{filter_in, filter_part, in_at, in_each, in_filter, in_get_d, part}
 
 -- the moves of condition c are those from its place to the next
@@ -33,6 +34,41 @@ module _ (ms : List Move) (c a b : ℕ) (start : Start ms c a) (end : Start ms (
       (λ i l. ne_eqb (at ms i).condition c (λ e. let x = start.behind i l in absurd (omega arith)))
       (λ i h l. eq-eqb (at ms i).condition c (let r = end.inside in let x = start.ahead i h (omega arith) in let y = end.behind i l in omega arith))
       (λ i h l. ne_eqb (at ms i).condition c (λ e. let x = end.ahead i h l in absurd (omega arith))))
+
+-- where the moves of a condition begin, found from where those of the one before it do
+pub start_more : (p : Port) (from c n : ℕ) → Start (vec_items p.moves) (c - 1) from → n ≤ length (drop from (vec_items p.moves)) →
+    ((i : ℕ) → i < n → (at (drop from (vec_items p.moves)) i).condition < c) →
+    (n < length (drop from (vec_items p.moves)) → c ≤ (at (drop from (vec_items p.moves)) n).condition) → Start (vec_items p.moves) c (from + n)
+start_more p from c n before inside behind next = record {
+  inside = omega (arith, before.inside, inside, long);
+  behind = λ i l. ⊎_elim
+      (λ q. let x = before.behind i q in omega arith)
+      (λ q.
+      let j : ℕ = i - from in
+      let same : from + j ≡ i = omega arith in
+      subst (λ m. m.condition < c) (get_or-drop from ms j no_move ∙ ap (λ k. at ms k) same) (behind j (omega arith)))
+      (cases_lt i from);
+  ahead = λ i h l.
+      let low : c ≤ (at ms (from + n)).condition = subst (λ m. c ≤ m.condition) (get_or-drop from ms n no_move) (next (omega (arith, h, l, long))) in
+      let rise = conditions_rise (vec_len p.conditions) ms p.conditions_few (port_exist p) p.moves_rise (from + n) i h l in
+      omega arith;
+}
+  where
+    ms : List Move
+    ms = vec_items p.moves
+
+    long : length (drop from ms) ≡ length ms - from
+    long = length-drop from ms
+
+-- one row more
+pub rows_more : (ms : List Move) (rows more : List (Bor (List Move))) (x : Bor (List Move)) (c : ℕ) → length rows ≡ c → more ≡ rows ++ x ∷ [] → x.now ≡ row c ms →
+    ((k : ℕ) (r : Bor (List Move)) → k < c → (get_or rows k r).now ≡ row k ms) →
+    (k : ℕ) (r : Bor (List Move)) → k < c + 1 → (get_or more k r).now ≡ row k ms
+rows_more ms rows more x c long is here before k r l =
+    subst (λ (zs : List (Bor (List Move))). (get_or zs k r).now ≡ row k ms) (sym is)
+    (below_more (λ j. (get_or (rows ++ x ∷ []) j r).now ≡ row j ms) c
+    (λ j h. ap (λ (y : Bor (List Move)). y.now) (get_or_append_left rows (x ∷ []) r j (omega (arith, h, long))) ∙ before j r h)
+    (ap (λ (y : Bor (List Move)). y.now) (get_or_at rows x [] r c long) ∙ here) k l)
 
 -- a row has exactly the moves from its condition, in order of operation
 pub row_from : (p : Port) (c : ℕ) → From (vec_items p.moves) c (row c (vec_items p.moves))

@@ -1,7 +1,8 @@
 // How the index of a port is made.
-ghost use Rattle.std.specs.Prelude.{◌≡◌, ◌+◌, IfOk, vec_len};
+ghost use Rattle.std.specs.Prelude.{◌≡◌, ℕ, ◌-◌, ◌<◌, ◌≤◌, length, IfOk, vec_len};
+ghost use Rattle.port.specs.Limits.{at};
 ghost use Rattle.index.specs.Indexed.{port_of};
-ghost use Rattle.index.specs.Indexes.{Bare, Flags, Rows, Start, Timed, row};
+ghost use Rattle.index.specs.Indexes.{Bare, Flags, Rows, Start, Timed};
 
 use super::MoveIndex;
 use port::{Move, Port};
@@ -23,37 +24,37 @@ fn bound_minutes(moves: &[Move])
     }
 }
 
-// Where the moves of condition `c` begin.
-fn start_of(port: &Port, c: usize) -> usize
+// How many moves at the front are from a condition below `c`.
+fn below_front(moves: &[Move], c: usize) -> usize
+    ensures inside { result ≤ length moves.now }
+    ensures behind { (i : ℕ) → i < result → (at moves.now i).condition < c }
+    ensures next { result < length moves.now → c ≤ (at moves.now result).condition }
+{
+    let other = moves.iter().position(|m| m.condition as usize >= c);
+    other.unwrap_or(moves.len())
+}
+
+// Where the moves of condition `c` begin, if those of the one before it begin at `from`; for the first, `from` is 0.
+fn start_of(port: &Port, from: usize, c: usize) -> usize
+    requires { Start port.now.moves.items (c - 1) from }
     ensures { Start port.now.moves.items c result }
 {
-    port.moves.partition_point(|m| (m.condition as usize) < c)
-}
-
-// Where they end.
-// Stays: beside `start_of`, and not that of `c + 1`, which would need a test first that there is such a number.
-fn end_of(port: &Port, c: usize) -> usize
-    ensures { Start port.now.moves.items (c + 1) result }
-{
-    port.moves.partition_point(|m| (m.condition as usize) <= c)
-}
-
-// The moves from condition `c`.
-fn row_of(port: &Port, c: usize) -> &[Move]
-    ensures { result.now ≡ row c port.now.moves.items }
-{
-    let start = start_of(port, c);
-    let end = end_of(port, c);
-    &port.moves[start..end]
+    from + below_front(&port.moves[from..], c)
 }
 
 // For each condition the moves from it.
+// Stays: by the condition's number, since each row begins where the one before it ends, and a condition may have no moves.
 fn rows_of<'a>(heap: Global, port: &'a Port) -> Result<Vec<&'a [Move]>, AllocError>
     ensures { IfOk result (λ v. (vec_len v ≡ vec_len port.now.conditions) × Rows (vec_len port.now.conditions) port.now.moves.items v.items) }
 {
-    (0..port.conditions.len())
-        .map(|c| row_of(port, c))
-        .collect(heap)
+    let mut rows = Vec::with_capacity(heap, port.conditions.len())?;
+    let mut start = start_of(port, 0, 0);
+    for c in 0..port.conditions.len() {
+        let end = start_of(port, start, c + 1);
+        rows.push(&port.moves[start..end])?;
+        start = end;
+    }
+    Ok(rows)
 }
 
 // For each outcome, from which conditions a move leads to it.

@@ -1,23 +1,10 @@
-use Rattle.std.proofs.Common.{◌≡◌, List, ltb, ltb-true, ltb-false, vec_items, sym, subst, arith, rules}
-use Rattle.std.specs.List.Sorted.{IsNonDecreasingBy}
-use Rattle.std.proofs.lemmas.List.Sorted.{IsPartitionPoint-from_clause, IsPartitionedBy-ltb}
-use Rattle.port.specs.Limits.{at, no_move}
-use Rattle.port.specs.declared.Move.{Move}
-use Rattle.index.specs.Indexes.{Start}
-use Rattle.index.proofs.Bounds.{port_sorted}
+use Rattle.std.proofs.Common.{vec_items}
+use Rattle.std.proofs.lemmas.List.{take_rest}
+use Rattle.index.proofs.Places.{start_more}
 use Rattle.index.proofs.build.start_of.Goals as goal
 
 pub returns : goal.returns
 returns c =
-    let ms = c.deref.result.now in
-    let same : ms ≡ vec_items c.args.port.now.moves = c.deref.ensures.value in
-    let sorted = subst (λ (xs : List Move). IsNonDecreasingBy (λ (m : Move). m.condition) xs) (sym same) (port_sorted c.args.port.now) in
-    let point =
-    IsPartitionPoint-from_clause (λ (m : Move). ltb m.condition c.args.c) ms c.partition_point.result c.partition_point.ensures.partitioned
-    (IsPartitionedBy-ltb (λ (m : Move). m.condition) ms c.args.c sorted) (λ a r f' k. search rules) in
-    subst (λ (xs : List Move). Start xs c.args.c c.partition_point.result) same
-    record {
-      inside = c.partition_point.ensures.bound;
-      behind = λ i l. ltb-true (at ms i).condition c.args.c (point.0 i no_move (omega arith) l);
-      ahead = λ i h l. ltb-false (at ms i).condition c.args.c (point.1 i no_move h l);
-    }
+    let p = c.args.port.now in
+    let e = rw (c.deref.ensures.value, take_rest (vec_items p.moves) c.args.from) at c.below_front.ensures in
+    start_more p c.args.from c.args.c c.below_front.result c.requires e.inside e.behind e.next
