@@ -2,7 +2,7 @@
 use Rattle.std.proofs.Common.{◌≡◌, ℕ, zero, suc, ◌+◌, ◌-◌, ◌*◌, ◌<◌, ◌≤◌, Bool, true, false, ◌&&◌, List, [], ◌∷◌, ◌++◌, length, get_or, take, set, sym, refl, ap, ◌∙◌, subst, suc-mul, zero-mul, arith, get_or-set_other, get_or-set_same, length-append}
 use native.Mathlib.Decide.{ℕ_discrete}
 use Rattle.std.specs.List.{AllZip, flat_map}
-use Rattle.std.proofs.lemmas.List.{take_more, get_or_append_left, get_or-append_right}
+use Rattle.std.proofs.lemmas.List.{ext_get_or, take_more, get_or_append_left, get_or-append_right}
 use Rattle.std.proofs.lemmas.Slice.Zip.{all_zipped_more}
 use Rattle.port.specs.Limits.{In}
 use Rattle.plans.specs.Flags.{has}
@@ -63,6 +63,12 @@ both_long [] b n e f = e
 both_long (x ∷ a) [] n e f = absurd (omega (arith, e, f))
 both_long (x ∷ a) (y ∷ b) zero e f = absurd (omega (arith, e))
 both_long (x ∷ a) (y ∷ b) (suc n) e f = ap suc (both_long a b n (omega (arith, e)) (omega (arith, f)))
+
+-- a row that has at each place the flag that both rows have there
+pub both_each : (row a b : List Bool) → length row ≡ length a → length b ≡ length a → ((c : ℕ) → c < length a → has row c ≡ (has a c && has b c)) → row ≡ both_rows a b
+both_each row a b e f each =
+    ext_get_or false row (both_rows a b) (e ∙ sym (both_long a b (length a) refl f))
+    (λ c l. each c (subst (λ (n : ℕ). c < n) e l) ∙ sym (both_has a b c))
 
 -- ── rows of one width, one after another ──
 

@@ -119,7 +119,7 @@ module _ (index : MoveIndex) {before stages : List Stage} {first tasks : List Ta
         subst (λ (fs : List Bool). Fresh D fs t) (sym (ap vec_items same.alive))
         (h.fresh i a b l (λ le. sym same.lost ∙ kept))
 
-    module _ (u : Task) (texts : SameTexts t u) (f : Fresh D (vec_items e.alive) u) (x : Stage) (s' : Stage) (n : NarrowedBy (vec_items u.served) (get_or stages u.from x) s') where
+    module _ (u : Task) (texts : SameTexts t u) (f : Fresh D (vec_items e.alive) u) (x : Stage) where
       abbrev s : Stage
       s = get_or stages u.from x
 
@@ -132,70 +132,75 @@ module _ (index : MoveIndex) {before stages : List Stage} {first tasks : List Ta
       here : u.from < length stages
       here = subst (λ (k : ℕ). u.from < k) (sym h.high) low
 
-      -- the pairs of its to-stage that are left
-      ends : (c : ℕ) → has (vec_items e.alive) c ≡ left_in before (task_at D i).to c
-      ends c =
-          let lb : (task_at D i).to < length before = subst (λ (k : ℕ). (task_at D i).to < k) (sym high) (task_staged D wf i l).1 in
-          ap (λ v. has (vec_items v) c) same.alive ∙ sym (left_at before (task_at D i).to c b lb)
+      -- its row is as long as that of its from-stage
+      pub turn_rows : length (vec_items u.served) ≡ length (vec_items s.next)
+      turn_rows = f.served_long ∙ sym (h.wide u.from x low).next
 
-      wide : Wide D.conditions s'
-      wide =
-          let w : Wide D.conditions s = h.wide u.from x low in
-          record {
-            alive = ap (λ v. length (vec_items v)) n.alive ∙ w.alive;
-            next = ap length n.next ∙ both_long (vec_items s.next) (vec_items u.served) D.conditions w.next f.served_long;
-            ranks = ap (λ v. length (vec_items v)) n.ranks ∙ w.ranks;
-          }
+      module _ (s' : Stage) (n : NarrowedBy (vec_items u.served) s s') where
+        -- the pairs of its to-stage that are left
+        ends : (c : ℕ) → has (vec_items e.alive) c ≡ left_in before (task_at D i).to c
+        ends c =
+            let lb : (task_at D i).to < length before = subst (λ (k : ℕ). (task_at D i).to < k) (sym high) (task_staged D wf i l).1 in
+            ap (λ v. has (vec_items v) c) same.alive ∙ sym (left_at before (task_at D i).to c b lb)
 
-      pub turned_more : Turned D before (set tasks i u) (set stages u.from s') (i + 1)
-      turned_more = record {
-        told = record {
-          many = length-set tasks i u ∙ h.told.many;
-          each = λ j d lj. each_set (λ (k : ℕ) (y : Task). k < length D.tasks → IsDomainTask D.conditions (task_at D k) y) tasks i u li (λ lk. told)
-              (λ k y ne lk. h.told.each k y lk) j d lj;
-        };
-        high = length-set stages u.from s' ∙ h.high;
-        same = λ k d lk.
-            each_set (λ (j : ℕ) (y : Stage). j < D.stages → SameLeft (get_or before j d) y) stages u.from s' here
-            (λ lj.
-            let old : SameLeft (get_or before u.from d) s = subst (SameLeft (get_or before u.from d)) (alike d) (h.same u.from d low) in
-            record { alive = n.alive ∙ old.alive; ranks = n.ranks ∙ old.ranks; lost = n.lost ∙ old.lost })
-            (λ j y ne lj. subst (SameLeft (get_or before j d)) (defaults j d y lj) (h.same j d lj)) k d lk;
-        wide = λ k d lk. each_set (λ (j : ℕ) (y : Stage). j < D.stages → Wide D.conditions y) stages u.from s' here (λ lj. wide) (λ j y ne lj. h.wide j y lj) k d lk;
-        fresh = fresh;
-        left = narrowed_more D (serving D (left_in before)) (left_in before) (next_in stages) (next_in (set stages u.from s')) i h.left mine others;
-      }
-        where
-          -- what is read past the end doesn't matter within
-          defaults : (j : ℕ) (d y : Stage) → j < D.stages → get_or stages j d ≡ get_or stages j y
-          defaults j d y lj = get_or_default stages j d y (omega (arith, lj, h.high))
+        wide : Wide D.conditions s'
+        wide =
+            let w : Wide D.conditions s = h.wide u.from x low in
+            record {
+              alive = ap (λ v. length (vec_items v)) n.alive ∙ w.alive;
+              next = ap length n.next ∙ both_long (vec_items s.next) (vec_items u.served) D.conditions w.next f.served_long;
+              ranks = ap (λ v. length (vec_items v)) n.ranks ∙ w.ranks;
+            }
 
-          alike : (d : Stage) → get_or stages u.from d ≡ s
-          alike d = defaults u.from d x low
+        pub turned_more : Turned D before (set tasks i u) (set stages u.from s') (i + 1)
+        turned_more = record {
+          told = record {
+            many = length-set tasks i u ∙ h.told.many;
+            each = λ j d lj. each_set (λ (k : ℕ) (y : Task). k < length D.tasks → IsDomainTask D.conditions (task_at D k) y) tasks i u li (λ lk. told)
+                (λ k y ne lk. h.told.each k y lk) j d lj;
+          };
+          high = length-set stages u.from s' ∙ h.high;
+          same = λ k d lk.
+              each_set (λ (j : ℕ) (y : Stage). j < D.stages → SameLeft (get_or before j d) y) stages u.from s' here
+              (λ lj.
+              let old : SameLeft (get_or before u.from d) s = subst (SameLeft (get_or before u.from d)) (alike d) (h.same u.from d low) in
+              record { alive = n.alive ∙ old.alive; ranks = n.ranks ∙ old.ranks; lost = n.lost ∙ old.lost })
+              (λ j y ne lj. subst (SameLeft (get_or before j d)) (defaults j d y lj) (h.same j d lj)) k d lk;
+          wide = λ k d lk. each_set (λ (j : ℕ) (y : Stage). j < D.stages → Wide D.conditions y) stages u.from s' here (λ lj. wide) (λ j y ne lj. h.wide j y lj) k d lk;
+          fresh = fresh;
+          left = narrowed_more D (serving D (left_in before)) (left_in before) (next_in stages) (next_in (set stages u.from s')) i h.left mine others;
+        }
+          where
+            -- what is read past the end doesn't matter within
+            defaults : (j : ℕ) (d y : Stage) → j < D.stages → get_or stages j d ≡ get_or stages j y
+            defaults j d y lj = get_or_default stages j d y (omega (arith, lj, h.high))
 
-          fresh : FreshFrom D (set tasks i u) before (i + 1)
-          fresh j d b' lj le =
-              each_set (λ (k : ℕ) (y : Task). k ≡ j → Fresh D (vec_items (get_or before (task_at D j).to b').alive) y) tasks i u li
-              (λ k. subst (λ (fs : List Bool). Fresh D fs u)
-              (ap vec_items same.alive ∙ ap vec_items (ap (λ (y : Stage). y.alive) (get_or_default before (task_at D i).to b b' (omega (arith, high, (task_staged D wf i l).1)))
-              ∙ ap (λ (m : ℕ). (get_or before (task_at D m).to b').alive) k)) f)
-              (λ k y ne ek. subst (λ (m : ℕ). Fresh D (vec_items (get_or before (task_at D j).to b').alive) (get_or tasks m y)) (sym ek)
-              (h.fresh j y b' lj (λ lk. le (past k ne ek lk)))) j d refl
-            where
-              past : (k : ℕ) → (k ≡ i → ⊥) → k ≡ j → i ≤ j → i + 1 ≤ j
-              past k ne ek lk = omega arith
+            alike : (d : Stage) → get_or stages u.from d ≡ s
+            alike d = defaults u.from d x low
 
-          mine : (c : ℕ) → c < D.conditions → next_in (set stages u.from s') (task_at D i).from c ≡ (next_in stages (task_at D i).from c && serving D (left_in before) i c)
-          mine c lc =
-              subst (λ (k : ℕ). next_in (set stages u.from s') k c ≡ (next_in stages k c && serving D (left_in before) i c)) told.from
-              (next_at (set stages u.from s') u.from c s' (omega (arith, here, length-set stages u.from s'))
-              ∙ ap (λ (y : Stage). has (vec_items y.next) c) (get_or-set_same stages u.from s' s' here)
-              ∙ ap (λ fs. has fs c) n.next ∙ both_has (vec_items s.next) (vec_items u.served) c
-              ∙ ap (λ (b : Bool). b && has (vec_items u.served) c) (sym (next_at stages u.from c x here))
-              ∙ ap (λ (b : Bool). next_in stages u.from c && b) (fresh_serving D wf (left_in before) i (vec_items e.alive) u told f ends c lc))
+            fresh : FreshFrom D (set tasks i u) before (i + 1)
+            fresh j d b' lj le =
+                each_set (λ (k : ℕ) (y : Task). k ≡ j → Fresh D (vec_items (get_or before (task_at D j).to b').alive) y) tasks i u li
+                (λ k. subst (λ (fs : List Bool). Fresh D fs u)
+                (ap vec_items same.alive ∙ ap vec_items (ap (λ (y : Stage). y.alive) (get_or_default before (task_at D i).to b b' (omega (arith, high, (task_staged D wf i l).1)))
+                ∙ ap (λ (m : ℕ). (get_or before (task_at D m).to b').alive) k)) f)
+                (λ k y ne ek. subst (λ (m : ℕ). Fresh D (vec_items (get_or before (task_at D j).to b').alive) (get_or tasks m y)) (sym ek)
+                (h.fresh j y b' lj (λ lk. le (past k ne ek lk)))) j d refl
+              where
+                past : (k : ℕ) → (k ≡ i → ⊥) → k ≡ j → i ≤ j → i + 1 ≤ j
+                past k ne ek lk = omega arith
 
-          others : (k c : ℕ) → k < D.stages → (k ≡ (task_at D i).from → ⊥) → next_in (set stages u.from s') k c ≡ next_in stages k c
-          others k c lk ne =
-              next_at (set stages u.from s') k c s' (omega (arith, lk, h.high, length-set stages u.from s'))
-              ∙ ap (λ (y : Stage). has (vec_items y.next) c) (get_or-set_other stages u.from k s' s' (λ p. ne (p ∙ told.from)))
-              ∙ sym (next_at stages k c s' (omega (arith, lk, h.high)))
+            mine : (c : ℕ) → c < D.conditions → next_in (set stages u.from s') (task_at D i).from c ≡ (next_in stages (task_at D i).from c && serving D (left_in before) i c)
+            mine c lc =
+                subst (λ (k : ℕ). next_in (set stages u.from s') k c ≡ (next_in stages k c && serving D (left_in before) i c)) told.from
+                (next_at (set stages u.from s') u.from c s' (omega (arith, here, length-set stages u.from s'))
+                ∙ ap (λ (y : Stage). has (vec_items y.next) c) (get_or-set_same stages u.from s' s' here)
+                ∙ ap (λ fs. has fs c) n.next ∙ both_has (vec_items s.next) (vec_items u.served) c
+                ∙ ap (λ (b : Bool). b && has (vec_items u.served) c) (sym (next_at stages u.from c x here))
+                ∙ ap (λ (b : Bool). next_in stages u.from c && b) (fresh_serving D wf (left_in before) i (vec_items e.alive) u told f ends c lc))
+
+            others : (k c : ℕ) → k < D.stages → (k ≡ (task_at D i).from → ⊥) → next_in (set stages u.from s') k c ≡ next_in stages k c
+            others k c lk ne =
+                next_at (set stages u.from s') k c s' (omega (arith, lk, h.high, length-set stages u.from s'))
+                ∙ ap (λ (y : Stage). has (vec_items y.next) c) (get_or-set_other stages u.from k s' s' (λ p. ne (p ∙ told.from)))
+                ∙ sym (next_at stages k c s' (omega (arith, lk, h.high)))

@@ -37,7 +37,7 @@ fn take_turns(
 {
     for task in tasks.iter_mut() {
         task.refresh(heap, index, &stages[task.to])?;
-        stages[task.from].narrow(heap, &task.served)?;
+        stages[task.from].narrow(&task.served);
     }
     Ok(())
 }

@@ -1,5 +1,5 @@
 // Formulas, and rows of flags, a flag for each condition.
-ghost use Rattle.std.specs.Prelude.{◌≡◌, true, IfOk};
+ghost use Rattle.std.specs.Prelude.{◌≡◌, true, length, IfOk};
 ghost use Rattle.formula.specs.Truth.{is_formula, truth};
 ghost use Rattle.rounds.specs.Rows.{both_rows, truths};
 
@@ -30,6 +30,17 @@ impl Formula<'_> {
             .iter()
             .map(|marks| self.holds(*marks))
             .collect(heap)
+    }
+}
+
+// Takes the flags out of a row that the other has not.
+pub(crate) fn narrow(row: &mut [bool], other: &[bool])
+    requires { length other.now ≡ length row.old }
+    ensures { row.new ≡ both_rows row.old other.now }
+{
+    // Stays: by the condition's number, since of what is zipped with `iter_mut` a proof knows no element.
+    for (c, flag) in row.iter_mut().enumerate() {
+        *flag = *flag && other[c];
     }
 }
 

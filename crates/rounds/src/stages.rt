@@ -1,9 +1,9 @@
 // A port's stages as the rounds see them.
-ghost use Rattle.std.specs.Prelude.{◌≡◌, ℕ, ◌<◌, length, IfOk, OnOk, cond, not, ◌&&◌, vec_len, slice_index};
+ghost use Rattle.std.specs.Prelude.{◌≡◌, ℕ, ◌<◌, length, IfOk, cond, not, ◌&&◌, vec_len, slice_index};
 ghost use Rattle.plans.specs.Flags.{has};
 ghost use Rattle.rounds.specs.Stages.{IsNew, Even, NarrowedBy, SettledBy, StagesNew};
 
-use crate::rows::both;
+use crate::rows::narrow;
 use std::alloc::{AllocError, Global};
 
 // A stage: rows by condition for its pairs.
@@ -48,11 +48,11 @@ impl Stage {
     }
 
     // Takes out of what this round leaves the pairs from which a request is not served.
-    pub(crate) fn narrow(&mut self, heap: Global, served: &[bool]) -> Result<(), AllocError>
-        ensures { OnOk result (NarrowedBy served.now self.old self.new) }
+    pub(crate) fn narrow(&mut self, served: &[bool])
+        requires { length served.now ≡ length self.old.next.items }
+        ensures { NarrowedBy served.now self.old self.new }
     {
-        self.next = both(heap, &self.next, served)?;
-        Ok(())
+        narrow(&mut self.next, served);
     }
 
     // Ends a round of this number.

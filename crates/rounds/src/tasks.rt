@@ -91,7 +91,7 @@ impl Task {
 pub(crate) fn tasks_of(heap: Global, port: &Port) -> Result<Vec<Task>, AllocError>
     ensures { IfOk result (λ v. TasksOf port.now v.items) }
 {
-    let mut tasks = Vec::new(heap);
+    let mut tasks = Vec::with_capacity(heap, port.requests.len())?;
     // Stays: tried with `try_collect`: that a request is one of the port's, as `Task::new` asks, did not close for its closure.
     for request in &port.requests {
         tasks.push(Task::new(heap, port, request)?)?;

@@ -1,6 +1,6 @@
-use Rattle.std.proofs.Common.{◌<◌, length, arith}
+use Rattle.std.proofs.Common.{◌<◌, length, ap, ◌∙◌, arith}
 use Rattle.rounds.specs.Rounds.{domain_in}
-use Rattle.rounds.proofs.Turns.{turned_start, turn_ends, turn_fresh, turn_leaves, turn_wide, turned_more}
+use Rattle.rounds.proofs.Turns.{turned_start, turn_ends, turn_fresh, turn_leaves, turn_rows, turn_wide, turned_more}
 use Rattle.rounds.proofs.judging.take_turns.Goals as goal
 
 pub loop-task-init : goal.loop-task-init
@@ -42,9 +42,15 @@ bounds-stages-task-in-loop-task c =
     let l : c.loop-task.task-index < length c.loop-task.tasks = omega arith in
     omega (arith, turn_leaves c.args.index.now c.requires c.loop-task.invariant l c.task-item.result, c.in_ok-refresh.ensures.same.from)
 
+pub narrow-requires : goal.narrow-requires
+narrow-requires c =
+    let l : c.loop-task.task-index < length c.loop-task.tasks = omega arith in
+    ap length c.deref.ensures.value
+    ∙ turn_rows c.args.index.now c.requires c.loop-task.invariant l c.task-item.result c.index-stages-task.result c.refresh.new.self c.in_ok-refresh.ensures.same c.in_ok-refresh.ensures.fresh c.index-stages-task-in-loop-task.result
+
 pub loop-task-preserved : goal.loop-task-preserved
 loop-task-preserved c =
     let l : c.loop-task.task-index < length c.loop-task.tasks = omega arith in
     turned_more c.args.index.now c.requires c.loop-task.invariant l c.task-item.result c.index-stages-task.result
     c.refresh.new.self c.in_ok-refresh.ensures.same c.in_ok-refresh.ensures.fresh c.index-stages-task-in-loop-task.result c.narrow.new.self
-    (rw c.deref.ensures.value at c.in_ok-narrow.ensures)
+    (rw c.deref.ensures.value at c.narrow.ensures)
