@@ -14,6 +14,10 @@ fn digit(b: u8) -> Option<u8> {
 // The bytes that a line of hex tells, or none where it is no hex.
 // Stays: a rule of the project: nothing new is trusted, as the statements of the kit's crate for hex would be.
 fn decode(heap: Global, line: &[u8]) -> Result<Option<Vec<u8>>, AllocError> {
+    // This comes before any byte is kept, since a line may be of any length.
+    if line.len() % 2 != 0 {
+        return Ok(None);
+    }
     let mut bytes = Vec::new(heap);
     for pair in line.chunks(2) {
         let [high, low] = pair else {
