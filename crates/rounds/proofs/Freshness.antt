@@ -23,11 +23,10 @@ use Rattle.costs.specs.Costs.{Model as Costing}
 use Rattle.search.specs.Answers.{Answers, RightChoice}
 use Rattle.search.specs.declared.Choice.{Choice}
 use Rattle.search.specs.declared.Choice.TheVariants.{None, There, Work}
-use Rattle.rounds.specs.Rows.{both_rows}
 use Rattle.rounds.specs.Rounds.{serving}
 use Rattle.rounds.specs.Tasks.{DomainTasks, Fresh, IsDomainTask, IsTask, SameTexts, TasksOf, planned}
 use Rattle.rounds.specs.declared.tasks.Task.{Task}
-use Rattle.rounds.proofs.Lists.{all_zip_at, an_element, both_has, both_long}
+use Rattle.rounds.proofs.Lists.{all_zip_at, an_element}
 
 -- a choice has a plan exactly where some plan attains the goal
 pub planned_iff : {A : Type 0} (k : Costing) (e : A → List ℕ) (moves : List Move) (keep goal : ℕ → Bool) (c : ℕ) (x : Choice A) →
@@ -44,12 +43,12 @@ task_staged D wf i l = wf.staged (task_at D i) (in_at D.tasks i no_task l)
 
 -- the rows that a search leaves
 pub searched : {A : Type 0} (k : Costing) (e : A → List ℕ) (D : Domain) (alive : List Bool) (choices : List (Choice A)) (t : Task) →
-    length (vec_items t.reach) ≡ D.conditions → length alive ≡ D.conditions → vec_items t.goal ≡ both_rows (vec_items t.reach) alive →
+    length (vec_items t.goal) ≡ D.conditions → ((c : ℕ) → has (vec_items t.goal) c ≡ (has (vec_items t.reach) c && has alive c)) →
     Answers D.conditions k e D.moves (vec_items t.keep) (vec_items t.goal) choices → vec_items t.served ≡ map planned choices → Fresh D alive t
-searched k e D alive choices t long wide goal a served = record {
-  goal_long = ap length goal ∙ both_long (vec_items t.reach) alive D.conditions long wide;
+searched k e D alive choices t long goal a served = record {
+  goal_long = long;
   served_long = ap length served ∙ length-map choices planned ∙ a.sized;
-  goal = λ c l. ap (λ fs. has fs c) goal ∙ both_has (vec_items t.reach) alive c;
+  goal = λ c l. goal c;
   served = λ c l.
       let here : has (vec_items t.served) c ≡ planned (get_or choices c None) =
       ap (λ fs. has fs c) served ∙ get_or-map planned choices c None false (omega (arith, a.sized)) in

@@ -1,6 +1,7 @@
 // Formulas, and rows of flags, a flag for each condition.
-ghost use Rattle.std.specs.Prelude.{◌≡◌, true, length, IfOk};
+ghost use Rattle.std.specs.Prelude.{◌≡◌, ℕ, true, ◌&&◌, length, IfOk};
 ghost use Rattle.formula.specs.Truth.{is_formula, truth};
+ghost use Rattle.plans.specs.Flags.{has};
 ghost use Rattle.rounds.specs.Rows.{both_rows, truths};
 
 use port::Text;
@@ -46,7 +47,9 @@ pub(crate) fn narrow(row: &mut [bool], other: &[bool])
 
 // Where both rows have a flag.
 pub(crate) fn both(heap: Global, a: &[bool], b: &[bool]) -> Result<Vec<bool>, AllocError>
-    ensures { IfOk result (λ v. v.items ≡ both_rows a.now b.now) }
+    ensures rows { IfOk result (λ v. v.items ≡ both_rows a.now b.now) }
+    ensures each { IfOk result (λ v. (c : ℕ) → has v.items c ≡ (has a.now c && has b.now c)) }
+    ensures long { IfOk result (λ v. length a.now ≡ length b.now → length v.items ≡ length b.now) }
 {
     a.iter().zip(b).map(|(a, b)| *a && *b).collect(heap)
 }

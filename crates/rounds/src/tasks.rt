@@ -1,8 +1,9 @@
 // A port's requests as the rounds see them.
-ghost use Rattle.std.specs.Prelude.{◌≡◌, false, length, IfOk, OnOk, map as mapped};
+ghost use Rattle.std.specs.Prelude.{◌≡◌, ℕ, false, ◌&&◌, length, IfOk, OnOk, map as mapped};
+ghost use Rattle.plans.specs.Flags.{has};
 ghost use Rattle.port.specs.Limits.{In};
 ghost use Rattle.port.specs.Model.{request_model};
-ghost use Rattle.rounds.specs.Rounds.{domain_in};
+ghost use Rattle.rounds.specs.Rounds.{Wide, domain_in};
 ghost use Rattle.rounds.specs.Tasks.{Fresh, IsTask, SameTexts, TasksOf, planned};
 
 use crate::rows::{Formula, both};
@@ -63,6 +64,27 @@ impl Task {
         })
     }
 
+    // Where the request may end with these pairs of its to-stage.
+    fn goal_with(&self, heap: Global, alive: &[bool]) -> Result<Vec<bool>, AllocError>
+        ensures each { IfOk result (λ v. (c : ℕ) → has v.items c ≡ (has self.now.reach.items c && has alive.now c)) }
+        ensures long { IfOk result (λ v. length self.now.reach.items ≡ length alive.now → length v.items ≡ length alive.now) }
+    {
+        both(heap, &self.reach, alive)
+    }
+
+    // Finds anew where the request may end with these pairs of its to-stage, and from where it can then be served.
+    fn aim(&mut self, heap: Global, index: &MoveIndex, alive: &[bool]) -> Result<(), AllocError>
+        requires reach { length self.old.reach.items ≡ (domain_in index.now).conditions }
+        requires alive { length alive.now ≡ (domain_in index.now).conditions }
+        ensures same { OnOk result (SameTexts self.old self.new) }
+        ensures fresh { OnOk result (Fresh (domain_in index.now) alive.now self.new) }
+    {
+        self.goal = self.goal_with(heap, alive)?;
+        let choices = search::<MoveCount>(heap, index, &self.keep, &self.goal)?;
+        self.served = planned(heap, &choices)?;
+        Ok(())
+    }
+
     // Brings the request's goal, and from where it can be served, up to date with the pairs of its to-stage: it is searched again
     // where that stage has lost one.
     pub(crate) fn refresh(
@@ -72,7 +94,7 @@ impl Task {
         end: &Stage,
     ) -> Result<(), AllocError>
         requires reach { length self.old.reach.items ≡ (domain_in index.now).conditions }
-        requires alive { length end.now.alive.items ≡ (domain_in index.now).conditions }
+        requires wide { Wide (domain_in index.now).conditions end.now }
         requires fresh { end.now.lost ≡ false → Fresh (domain_in index.now) end.now.alive.items self.old }
         ensures same { OnOk result (SameTexts self.old self.new) }
         ensures fresh { OnOk result (Fresh (domain_in index.now) end.now.alive.items self.new) }
@@ -80,10 +102,7 @@ impl Task {
         if !end.lost {
             return Ok(());
         }
-        self.goal = both(heap, &self.reach, &end.alive)?;
-        let choices = search::<MoveCount>(heap, index, &self.keep, &self.goal)?;
-        self.served = planned(heap, &choices)?;
-        Ok(())
+        self.aim(heap, index, &end.alive)
     }
 }
 

@@ -20,10 +20,10 @@ bounds-stages-task c =
     let leaves = turn_leaves c.args.index.now c.requires c.loop-task.invariant l c.task-item.result in
     omega (arith, ends.0, leaves)
 
-pub refresh-requires-clause-alive : goal.refresh-requires-clause-alive
-refresh-requires-clause-alive c =
+pub refresh-requires-clause-wide : goal.refresh-requires-clause-wide
+refresh-requires-clause-wide c =
     let l : c.loop-task.task-index < length c.loop-task.tasks = omega arith in
-    (turn_wide c.args.index.now c.requires c.loop-task.invariant l c.task-item.result c.index-stages-task.result).alive
+    turn_wide c.args.index.now c.requires c.loop-task.invariant l c.task-item.result c.index-stages-task.result
 
 pub refresh-requires-clause-fresh : goal.refresh-requires-clause-fresh
 refresh-requires-clause-fresh c =
